@@ -1,0 +1,5 @@
+pub mod Runs
+pub mod Spelling
+pub mod Numerals
+pub mod Hexes
+pub mod Texts
