@@ -1,0 +1,4 @@
+pub mod Dotted
+pub mod Colons
+pub mod Canonical
+pub mod Steps
