@@ -1,0 +1,5 @@
+pub mod Slashes
+pub mod Memory
+pub mod Spelling
+pub mod Eights
+pub mod Rewrites
