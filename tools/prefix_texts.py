@@ -28,7 +28,8 @@ Canonical texts. IPv4 as it is read. IPv6 in lower case, without leading zeros, 
 the leftmost run of two or more zero groups, also where a later run is longer (RFC 5952, section 4.2.3,
 takes the longest); a single zero group is written 0. A prefix is its address, a slash, and the length.
 
-The answers of the table are written by hand from these rules and from the RFCs named in it. The script
+The answers of the table are written by hand from these rules. The RFCs' examples were quoted from memory,
+with no copy of the documents at hand: compare them with the sections named before relying on that. The script
 then holds every line against Python's `ipaddress` (3.9.5 or later, which refuses leading zeros in octets)
 and the system's `inet_pton`. Where such a tool finds well formed what the rules call malformed, the line
 names it. If a check fails, the script says which, writes nothing, and exits with status 1.
