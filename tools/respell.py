@@ -5,7 +5,8 @@ Run once at the top, behind the toolchain's port.py. A definition, a lemma, a fi
 repository itself declares with a dash or a camel hump gets the snake case of its name: is-place becomes is_place,
 valueOn value_on. A lemma's dash stays where it joins two functions that the statement names, as in
 whole-groups : whole (groups n) ≡ n. Names that Rattle makes (goals, steps of a proof) and names that a file imports
-from a library stay. Says which names were changed, and stops where two of them would fall together.
+from a library stay. Prints which names were changed, and on standard error which of them were written before or fall
+together, to be looked at.
 """
 import os
 import re
@@ -16,7 +17,6 @@ NAME = re.compile(r"[A-Za-z_][A-Za-z0-9_'′]*(?:[-·][A-Za-z0-9_'′]+)*")
 MODIFIER = r"(?:abbrev |unfoldable |pub |record |data |ruleset |mutual )*"
 DECLARED = re.compile(rf"^(?P<indent> *)(?P<mod>{MODIFIER})(?P<name>[^\s(){{}}:;,.]+)(?P<args>(?: [({{][^:]*:.*)?) :(?P<type>\s.*)?$")
 CASE = re.compile(r"^ *\| (?P<name>[^\s(){}:;,.]+) :")
-OWN = re.compile(r"^use Rattle\.(?P<crate>\w+)\.")
 
 
 def files(*ends):
@@ -57,9 +57,6 @@ def declared():
             if re.search(rf"(?:goal|need|rules)\.{re.escape(name)}(?![\w-])", line):
                 continue
             mod = m.groupdict().get("mod", "") or ""
-            indented = line.startswith("  ") and not mod.startswith("pub ") and "/proofs/" not in f
-            if indented:
-                continue
             follow = rest + " ".join(lines[i + 1 : i + 4] if line.rstrip().endswith(":") else [])
             spelt = snake(name) if "abbrev" in mod or "unfoldable" in mod or CASE.match(line) else lemma(name, follow)
             if name != spelt:
@@ -91,7 +88,8 @@ def main():
     for text in texts.values():
         taken |= set(NAME.findall(text))
     together = sorted(f"{a} -> {b}" for a, b in table.items() if b in taken)
-    twice = sorted(b for b in table.values() if list(table.values()).count(b) > 1)
+    spellings = list(table.values())
+    twice = sorted({b for b in spellings if spellings.count(b) > 1})
     for f, text in texts.items():
         keep = imported(text, own)
 
@@ -102,12 +100,7 @@ def main():
                 return name
             return table.get(name, name)
 
-        # what stands in quotes or behind // is the program's text
-        out = []
-        for line in text.split("\n"):
-            out.append(line)
-        body = "\n".join(out)
-        changed = NAME.sub(respell, body)
+        changed = NAME.sub(respell, text)
         if f.endswith(".rt"):
             # in code only clauses, ghost items and imports change
             changed = "\n".join(
@@ -120,7 +113,7 @@ def main():
     print(f"{len(table)} names", file=sys.stderr)
     for line in together:
         print(f"look: {line} is written already", file=sys.stderr)
-    for name in sorted(set(twice)):
+    for name in twice:
         print(f"look: two names become {name}", file=sys.stderr)
 
 
