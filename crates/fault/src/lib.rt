@@ -1,4 +1,6 @@
 // Why anything is refused: the closed list of causes, and the fault that carries one upward, whole.
+#![tactic(auto)]
+
 ghost use Rattle.std.specs.Prelude.{◌≡◌};
 ghost use Rattle.fault.specs.Causes.{number, layer, letter, alone, moved};
 
