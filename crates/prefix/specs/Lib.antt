@@ -7,4 +7,5 @@ pub mod Table
 pub mod Props
 pub mod Binary
 pub mod Powers
+pub mod Sharing
 pub mod Eights

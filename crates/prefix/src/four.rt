@@ -5,6 +5,7 @@ ghost use Rattle.prefix.specs.Table.{reserved4};
 ghost use mathlib.Core.HLevel.{is_prop→PathP};
 ghost use Rattle.prefix.specs.Props.{lt_prop, le_prop, eq_prop};
 ghost use Rattle.prefix.specs.Binary.{front_decides};
+ghost use Rattle.prefix.specs.Sharing.{covers_decides, overlaps_decides};
 
 use crate::family::Family;
 use crate::row::Row;
@@ -78,6 +79,10 @@ impl Family for V4 {
     ghost five = { Prim.search rules };
 
     ghost bitwise = { λ p x small. front_decides 32 p.length p.within x p.address small p.small };
+
+    ghost within = { λ p q. covers_decides 32 (record { first = p.address; length = p.length }) (record { first = q.address; length = q.length }) (record { within = p.within; small = p.small; clear = p.clear }) (record { within = q.within; small = q.small; clear = q.clear }) };
+
+    ghost shared = { λ p q. overlaps_decides 32 (record { first = p.address; length = p.length }) (record { first = q.address; length = q.length }) (record { within = p.within; small = p.small; clear = p.clear }) (record { within = q.within; small = q.small; clear = q.clear }) };
 
     ghost below = { Prim.search rules };
 

@@ -1,5 +1,7 @@
 // IPv4 and IPv6 prefixes: one family interface, the two families behind it, places under a root, and
 // the reserved blocks.
+#![tactic(auto)]
+
 pub mod family;
 pub mod four;
 pub mod meaning;

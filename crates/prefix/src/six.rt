@@ -8,6 +8,7 @@ ghost use mathlib.Core.HLevel.{is_prop→PathP};
 ghost use Rattle.std.proofs.Math.ListN;
 ghost use Rattle.prefix.specs.Props.{le_prop, eq_prop, each_prop};
 ghost use Rattle.prefix.specs.Binary.{front_decides};
+ghost use Rattle.prefix.specs.Sharing.{covers_decides, overlaps_decides};
 
 use crate::family::Family;
 use crate::row::Row;
@@ -111,6 +112,10 @@ impl Family for V6 {
     ghost five = { Prim.search rules };
 
     ghost bitwise = { λ p x small. front_decides 128 p.length p.within x (whole p.groups) small (whole_small p.groups p.each) };
+
+    ghost within = { λ p q. covers_decides 128 (record { first = whole p.groups; length = p.length }) (record { first = whole q.groups; length = q.length }) (record { within = p.within; small = whole_small p.groups p.each; clear = p.clear }) (record { within = q.within; small = whole_small q.groups q.each; clear = q.clear }) };
+
+    ghost shared = { λ p q. overlaps_decides 128 (record { first = whole p.groups; length = p.length }) (record { first = whole q.groups; length = q.length }) (record { within = p.within; small = whole_small p.groups p.each; clear = p.clear }) (record { within = q.within; small = whole_small q.groups q.each; clear = q.clear }) };
 
     ghost below = { λ a ra. whole_small a ra.each };
 

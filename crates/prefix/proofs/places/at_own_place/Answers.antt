@@ -17,11 +17,11 @@ returns g c =
     record {
       inside = λ yes.
           let k = b.length - root.length in
-          let there = subst (λ x. block f c.prefix-at.result ≡ block_down f.width root k x) n
-          (c.prefix-at.ensures.inside k
+          let there = subst (λ x. block f c.prefix_at.result ≡ block_down f.width root k x) n
+          (c.prefix_at.ensures.inside k
           (subst (λ x. is_place f.width root d x ≡ true) (sym n) (own_place f.width root b d vr vb yes))
           (omega (arith, n, own_low f.width root b d vr vb yes))
           (omega (arith, n, own_high f.width root b d vr vb yes))) in
-          g.met.F.Family.same c.prefix-at.result c.args.p.now (there ∙ own_block f.width root b d vr vb yes);
-      outside = λ no. c.prefix-at.ensures.outside (no_zero f.width root d c.place.result (n ∙ no_place f.width root b d no));
+          g.met.F.Family.same c.prefix_at.result c.args.p.now (there ∙ own_block f.width root b d vr vb yes);
+      outside = λ no. c.prefix_at.ensures.outside (no_zero f.width root d c.place.result (n ∙ no_place f.width root b d no));
     }

@@ -5,8 +5,8 @@ use Rattle.std.proofs.lemmas.Nat.{one_shl, and_mask, pow_pos}
 use Rattle.prefix.specs.Powers.{mod_past}
 use Rattle.prefix.proofs.shift.lower.Goals as goal
 
-pub overflow-sub-result : goal.overflow-sub-result
-overflow-sub-result c = omega (arith, one_shl c.args.k 128 c.if-k-lt128.true, pow_pos c.args.k)
+pub overflow_sub-result : goal.overflow_sub-result
+overflow_sub-result c = omega (arith, one_shl c.args.k 128 c.if-k-lt128.true, pow_pos c.args.k)
 
 pub returns-then-k-lt128 : goal.returns-then-k-lt128
 returns-then-k-lt128 c =

@@ -70,24 +70,24 @@ enclosed w root d n z k L S a b v h el es ea eb =
     ap (λ x. cleared w x a) hl ∙ ap (λ x. cleared w (root.length + k) x) ha ∙ cleared_same w (root.length + k) first (down_clear w root v n k h.inside h.low h.high) in
     eb ∙ block_same (cleared w (L + (63 - z)) a) first (min (L + (63 - z)) w) (root.length + k) hc (omega (arith, h.inside, hl))
 
-pub overflow-sub-path : goal.overflow-sub-path
-overflow-sub-path g c =
+pub overflow_sub-path : goal.overflow_sub-path
+overflow_sub-path g c =
     let f = g.Self.Family.form in
     let v = g.met.Self.Family.valid c.args.root.now in
     let t = found f.width (block f c.args.root.now) c.args.depth c.args.n v.within (omega arith) (omega arith) c.if-depth-gt12.false (omega arith) (omega arith) in
     let h = t.1 in
     rw h.depth (omega (arith, one_shl t.0 64 (omega (arith, h.within, c.if-depth-gt12.false)), h.low))
 
-pub overflow-sub-width-2 : goal.overflow-sub-width-2
-overflow-sub-width-2 g c =
+pub overflow_sub-width-2 : goal.overflow_sub-width-2
+overflow_sub-width-2 g c =
     let f = g.Self.Family.form in
     let v = g.met.Self.Family.valid c.args.root.now in
     let t = found f.width (block f c.args.root.now) c.args.depth c.args.n v.within (omega arith) (omega arith) c.if-depth-gt12.false (omega arith) (omega arith) in
     let h = t.1 in
     omega (arith, h.depth, h.inside)
 
-pub overflow-add-first : goal.overflow-add-first
-overflow-add-first g c =
+pub overflow_add-first : goal.overflow_add-first
+overflow_add-first g c =
     let f = g.Self.Family.form in
     let v = g.met.Self.Family.valid c.args.root.now in
     let root = block f c.args.root.now in

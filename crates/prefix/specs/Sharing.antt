@@ -1,5 +1,5 @@
 -- Which prefixes lie in one another and which share addresses, at any width.
-use Rattle.std.proofs.Common.{◌≡◌, ℕ, ◌+◌, ◌-◌, ◌*◌, ◌/◌, ◌^◌, ◌<◌, ◌≤◌, true, leb, ◌⊎◌, Decides, sym, refl, ap, ◌∙◌, subst, inl, inr, ⊎_elim, one-mul, arith, pow-add}
+use Rattle.std.proofs.Common.{◌≡◌, ℕ, ◌+◌, ◌-◌, ◌*◌, ◌/◌, ◌^◌, ◌<◌, ◌≤◌, true, leb, Decides, sym, refl, ap, ◌∙◌, subst, inl, inr, ⊎_elim, one-mul, arith, pow-add}
 use Rattle.std.proofs.lemmas.Nat.{pow_pos, pow_below, shr-shr, shr_split, shr_below, shr_high, mul-add-lt}
 use Rattle.std.proofs.lemmas.Bool.{cases_lt, leb-true, le-leb, eqb-true, eq-eqb}
 use Rattle.std.proofs.lemmas.Bool.Decides.{Decides-eqb, Decides-like, Decides-and, Decides-or}
@@ -30,12 +30,12 @@ module _ (w l : ℕ) (c : Block) (v : Valid w c) (lw : l ≤ w) (shorter : c.len
   step_small : 2 ^ (w - l) < 2 ^ (w - c.length)
   step_small = pow_below (w - l) (w - c.length) (omega arith)
 
-  whole : c.first ≡ front w c.length c.first * 2 ^ (w - c.length)
-  whole = omega (arith, shr_split c.first (w - c.length), v.clear)
+  raised_front : c.first ≡ front w c.length c.first * 2 ^ (w - c.length)
+  raised_front = omega (arith, shr_split c.first (w - c.length), v.clear)
 
   other-front : front w c.length other ≡ front w c.length c.first
   unfolding other
-  other-front = ap (λ x. (x + 2 ^ (w - l)) / 2 ^ (w - c.length)) whole ∙ shr_high (front w c.length c.first) (w - c.length) (2 ^ (w - l)) step_small
+  other-front = ap (λ x. (x + 2 ^ (w - l)) / 2 ^ (w - c.length)) raised_front ∙ shr_high (front w c.length c.first) (w - c.length) (2 ^ (w - l)) step_small
 
   other_below : other < 2 ^ w
   unfolding other
@@ -43,7 +43,7 @@ module _ (w l : ℕ) (c : Block) (v : Valid w c) (lw : l ≤ w) (shorter : c.len
       let e : w ≡ c.length + (w - c.length) = omega (arith, v.within) in
       let q : front w c.length c.first < 2 ^ c.length = shr_below c.first c.length (w - c.length) (subst (λ x. c.first < 2 ^ x) e v.small) in
       let p : 2 ^ w ≡ 2 ^ c.length * 2 ^ (w - c.length) = ap (λ x. 2 ^ x) e ∙ pow-add 2 c.length (w - c.length) in
-      omega (arith, whole, p, mul-add-lt (front w c.length c.first) (2 ^ (w - c.length)) (2 ^ (w - l)) (2 ^ c.length) q step_small)
+      omega (arith, raised_front, p, mul-add-lt (front w c.length c.first) (2 ^ (w - c.length)) (2 ^ (w - l)) (2 ^ c.length) q step_small)
 
   other_differs : front w l other ≡ front w l c.first → ⊥
   unfolding other
