@@ -1,4 +1,4 @@
--- The groups of an IPv6 address in text. `Numeral 16` and `value 16` are the standard library's: one
+-- The groups of an IPv6 address in text. `IsNumeral 16` and `digits_value 16` are the standard library's: one
 -- or more hexadecimal digits of either case, and the number that they write.
 use Rattle.std.specs.Prelude.{◌≡◌, ℕ, ◌≤◌, Bool, false, ◌&&◌, List, length, nat_le}
 use Rattle.std.specs.List.{prefix_len}

@@ -10,19 +10,19 @@ use Rattle.numeral.proofs.group.leading_group.Goals as goal
 pub returns-then-at-text : goal.returns-then-at-text
 returns-then-at-text c = at_drop_all starts c.args.text.now c.args.at (omega arith)
 
-pub slice-bounds-value-end : goal.slice-bounds-value-end
-slice-bounds-value-end c =
+pub slice_bounds-value-end : goal.slice_bounds-value-end
+slice_bounds-value-end c =
     let x = drop c.args.at c.args.text.now in
     omega (arith, prefix_len-le-length is_ascii_hexdigit x, length-drop c.args.at c.args.text.now)
 
 pub value-requires : goal.value-requires
 value-requires c =
     let x = drop c.args.at c.args.text.now in
-    let e : c.hexes-end-end.result - c.args.at ≡ hexes x = omega arith in
+    let e : c.hexes_end-end.result - c.args.at ≡ hexes x = omega arith in
     rw e (hexes_front x)
 
 pub returns-in-None : goal.returns-in-None
 returns-in-None c =
     let x = drop c.args.at c.args.text.now in
-    let e : c.hexes-end-end.result - c.args.at ≡ hexes x = omega arith in
+    let e : c.hexes_end-end.result - c.args.at ≡ hexes x = omega arith in
     no_start x (rw e at c.in-None.ensures)

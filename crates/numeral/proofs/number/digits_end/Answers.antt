@@ -29,14 +29,14 @@ module _ (t : List ℕ) (at r : ℕ) (e : r ≡ at + decimals (drop at t)) where
   whole = rw (gap, ← next) (sym (take-append-drop (decimals (drop at t)) (drop at t)))
 
 pub loop-i-preserved : goal.loop-i-preserved
-loop-i-preserved c = omega (arith, prefix_len-drop_yes is_ascii_digit c.args.text.now c.loop-i.i 0 c.loop-i-test.true (sym c.if-is-ascii-digit.ensures.value))
+loop-i-preserved c = omega (arith, prefix_len-drop_yes is_ascii_digit c.args.text.now c.loop-i.i 0 c.loop-i-test.true (sym c.if-is_ascii_digit.ensures.value))
 
-pub returns-else-is-ascii-digit : goal.returns-else-is-ascii-digit
-returns-else-is-ascii-digit c =
+pub returns-else-is_ascii_digit : goal.returns-else-is_ascii_digit
+returns-else-is_ascii_digit c =
     let t = c.args.text.now in
     let at = c.args.at in
     let r = c.loop-i.i in
-    let e : r ≡ at + decimals (drop at t) = omega (arith, prefix_len-drop_no is_ascii_digit t r 0 c.loop-i-test.true (sym c.if-is-ascii-digit.ensures.value)) in
+    let e : r ≡ at + decimals (drop at t) = omega (arith, prefix_len-drop_no is_ascii_digit t r 0 c.loop-i-test.true (sym c.if-is_ascii_digit.ensures.value)) in
     record { count = e; within = within t at r e c.requires; front = front t at r e; rest = rest t at r e; whole = whole t at r e }
 
 pub returns-after-loop-i : goal.returns-after-loop-i

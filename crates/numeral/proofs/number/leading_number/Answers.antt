@@ -13,7 +13,7 @@ returns-then-at-text c =
 pub returns-in-None : goal.returns-in-None
 returns-in-None c =
     let x = drop c.args.at c.args.text.now in
-    let e : c.digits-end-end.result - c.args.at ≡ decimals x = omega arith in (
+    let e : c.digits_end-end.result - c.args.at ≡ decimals x = omega arith in (
       c.alone-in-None.ensures,
       λ n rest b. c.in-None.ensures n b.small (rw e (ap (λ l. take (decimals l) l) b.spelt ∙ decimal-take n (omega (arith, b.small)) rest b.ends)),
     )

@@ -8,11 +8,11 @@ use Rattle.numeral.proofs.number.number_before.Goals.{else-n-text-via-then-n-tex
 
 pub returns-then-text-n : goal.returns-then-text-n
 returns-then-text-n c =
-    let n = c.in-ok-n.n in
+    let n = c.in_ok-n.n in
     let text = c.args.text.now in
-    let b = c.in-ok-n.ensures.0 in
+    let b = c.in_ok-n.ensures.0 in
     let d = drop_more text n.end 0 (omega arith) in
-    let e : drop n.end text ≡ c.args.stop ∷ drop (n.end + 1) text = d ∙ ap (λ x. x ∷ drop (n.end + 1) text) c.if-text-n.true in
+    let e : drop n.end text ≡ c.args.stop ∷ drop (n.end + 1) text = cc in
     (subst (Begins c.args.limit (drop c.args.at text) n.value) e b, omega arith)
 
 module _ (text : List ℕ) (limit at v end stop n : ℕ) (rest : List ℕ) (low : limit < 2 ^ 32) (b : Begins limit (drop at text) v (drop end text)) (s : Begins limit (drop at text) n (stop ∷ rest)) where
@@ -27,8 +27,8 @@ module _ (text : List ℕ) (limit at v end stop n : ℕ) (rest : List ℕ) (low 
 
 pub returns : goal.returns
 returns c =
-    let x = c.in-ok-n.n in
-    let b = c.in-ok-n.ensures.0 in
+    let x = c.in_ok-n.n in
+    let b = c.in_ok-n.ensures.0 in
     let text = c.args.text.now in (
       c.alone.ensures,
       λ n rest s.

@@ -9,8 +9,8 @@ named : (ds : List ℕ) (limit : ℕ) → limit < 2 ^ 64 → Digits ds → Lean 
 named ds limit small d lean None h = λ n l e. omega (arith, ap (value_on 0) e, value_decimal n (omega arith))
 named ds limit small d lean (Some n) h = (h.1, sym (ap decimal h.0 ∙ decimal_value ds d lean (omega arith)))
 
-pub returns-then-is-lean : goal.returns-then-is-lean
-returns-then-is-lean c = named c.args.ds.now c.args.limit (omega arith) c.requires (c.if-is-lean.ensures.yes tt) c.sum.result c.sum.ensures
+pub returns-then-is_lean : goal.returns-then-is_lean
+returns-then-is_lean c = named c.args.ds.now c.args.limit (omega arith) c.requires (c.if-is_lean.ensures.yes tt) c.sum.result c.sum.ensures
 
-pub returns-else-is-lean : goal.returns-else-is-lean
-returns-else-is-lean c = λ n l e. c.if-is-lean.ensures.no (rw e (decimal_lean n (omega arith)))
+pub returns-else-is_lean : goal.returns-else-is_lean
+returns-else-is_lean c = λ n l e. c.if-is_lean.ensures.no (rw e (decimal_lean n (omega arith)))

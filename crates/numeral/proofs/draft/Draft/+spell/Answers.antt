@@ -1,6 +1,5 @@
 -- `Draft::spell` writes the digits of the number's front, and then the last.
-use Rattle.std.proofs.Common.{◌≡◌, ◌/◌, ◌%◌, false, [], ◌∷◌, ◌++◌, take, ap, ◌∙◌, arith, rules}
-use native.Mathlib.Nat.{div-lt_self}
+use Rattle.std.proofs.Common.{◌≡◌, ◌/◌, ◌%◌, false, [], ◌∷◌, ◌++◌, take, ap, ◌∙◌, arith}
 use Rattle.std.specs.Char.{digit_char}
 use Rattle.std.specs.Fmt.{digits}
 use Rattle.numeral.specs.Drafts.{text}
@@ -8,9 +7,6 @@ use Rattle.numeral.proofs.Spelling.{digits_one, digits_step}
 use Rattle.numeral.proofs.Texts.{then}
 use Rattle.numeral.proofs.draft.Draft.+spell.Goals as goal
 use Rattle.numeral.proofs.draft.Draft.+spell.Goals.{then-n, else-n}
-
-pub spell-requires : goal.spell-requires
-spell-requires g t c = (omega (arith, c.decreases, div-lt_self {n = c.args.n} {k = g.row.BASE} (omega arith) (omega arith)), (search rules, c.requires))
 
 pub returns : goal.returns
 returns g t c =
