@@ -20,16 +20,16 @@ module _ {d : List ℕ} (b gs : List ℕ) where
 pub returns-then-start-lt8 : goal.returns-then-start-lt8
 returns-then-start-lt8 c =
     let gs = c.args.groups in
-    let start = c.leftmost-run-start.result.start in
-    let end = c.leftmost-run-start.result.end in
+    let start = c.leftmost_run-start.result.start in
+    let end = c.leftmost_run-start.result.end in
     let eight : length gs ≡ 8 = omega arith in
     let each : (k : ℕ) → get_or gs k 0 < 65536 = λ k. search rules in
-    let at = c.leftmost-run-start.ensures.start in
-    let past : end ≡ run gs + zeros (drop (run gs) gs) = c.leftmost-run-start.ensures.end ∙ ap (λ s. s + zeros (drop s gs)) at in
+    let at = c.leftmost_run-start.ensures.start in
+    let past : end ≡ run gs + zeros (drop (run gs) gs) = c.leftmost_run-start.ensures.end ∙ ap (λ s. s + zeros (drop s gs)) at in
     let front = colons (take start gs) in
     let back = colons (drop end gs) in
-    let first = up_to _ gs _ start (omega arith) c.push-groups.ensures ∙ ap (λ t. take 43 (t ++ front)) c.new-draft.ensures in
-    let last = on_from _ gs end eight c.push-groups-then-start-lt8.ensures in
+    let first = up_to _ gs _ start (omega arith) c.push_groups.ensures ∙ ap (λ t. take 43 (t ++ front)) c.new-draft.ensures in
+    let last = on_from _ gs end eight c.push_groups-then-start-lt8.ensures in
     let one = then 43 [] front (58 ∷ []) first c.push.ensures in
     let two = then 43 [] (front ++ (58 ∷ [])) (58 ∷ []) one c.push-then-start-lt8.ensures in
     let all = then 43 [] ((front ++ (58 ∷ [])) ++ (58 ∷ [])) back two last in
@@ -42,10 +42,10 @@ returns-then-start-lt8 c =
 pub returns-else-start-lt8 : goal.returns-else-start-lt8
 returns-else-start-lt8 c =
     let gs = c.args.groups in
-    let start = c.leftmost-run-start.result.start in
+    let start = c.leftmost_run-start.result.start in
     let eight : length gs ≡ 8 = omega arith in
     let each : (k : ℕ) → get_or gs k 0 < 65536 = λ k. search rules in
-    let first = up_to _ gs _ start (omega arith) c.push-groups.ensures ∙ ap (λ t. take 43 (t ++ colons (take start gs))) c.new-draft.ensures in
+    let first = up_to _ gs _ start (omega arith) c.push_groups.ensures ∙ ap (λ t. take 43 (t ++ colons (take start gs))) c.new-draft.ensures in
     let all = take_all start gs (omega arith) in
-    let e = text6_whole gs (omega (arith, c.leftmost-run-start.ensures.start)) in
+    let e = text6_whole gs (omega (arith, c.leftmost_run-start.ensures.start)) in
     first ∙ ap (take 43) (ap colons all ∙ sym e) ∙ kept gs eight each

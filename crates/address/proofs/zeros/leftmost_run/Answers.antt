@@ -8,7 +8,7 @@ use Rattle.address.proofs.zeros.leftmost_run.Goals.{else-groups-start-eq0-via-th
 pub returns-then-groups-start-eq0-2 : goal.returns-then-groups-start-eq0-2
 returns-then-groups-start-eq0-2 c =
     let r = run_here c.args.groups.now c.loop-start.start (omega arith) c.if-groups-start-eq0.true c.if-groups-start-eq0-2.true in
-    record { start = omega arith; end = c.zeros-end.ensures.0; within = c.zeros-end.ensures.1 }
+    record { start = omega arith; end = c.zeros_end.ensures.0; within = c.zeros_end.ensures.1 }
 
 pub loop-start-preserved : goal.loop-start-preserved
 loop-start-preserved c =
