@@ -1,5 +1,5 @@
 -- A text with a slash, cut at its last one.
-use Rattle.std.proofs.Common.{◌≡◌, ℕ, ◌+◌, ◌-◌, ◌<◌, ◌≤◌, ◌⊎◌, List, ◌∷◌, ◌++◌, length, get_or, take, drop, sym, refl, ap, ◌∙◌, ⊎_elim, arith}
+use Rattle.std.proofs.Common.{◌≡◌, ℕ, ◌+◌, ◌-◌, ◌<◌, ◌≤◌, List, ◌∷◌, ◌++◌, length, get_or, take, drop, sym, refl, ap, ◌∙◌, ⊎_elim, arith}
 use Rattle.std.proofs.lemmas.List.{take-append-drop, drop_more, get_or-drop, get_or_at, get_or-append_right, length-append, length-drop, take_at, drop_at}
 use Rattle.std.proofs.lemmas.Bool.{cases_order}
 use Rattle.text.specs.Texts.{NoSlash}

@@ -8,12 +8,12 @@ use Rattle.text.specs.Texts.{PrefixText, Refused, NoSlash}
 
 -- out is the canonical text of what the text spells
 pub data Rewritten (spelt : List ℕ → ℕ → Type 0) (written : ℕ → List ℕ) (w : ℕ) (text out : List ℕ) : Type 0 where
-  as-prefix : (n l : ℕ) → PrefixText spelt text n l → refusal w n l ≡ None → out ≡ written n ++ (47 ∷ decimal l) → Rewritten spelt written w text out
-  as-address : (n : ℕ) → NoSlash text → spelt text n → out ≡ written n → Rewritten spelt written w text out
+  as_prefix : (n l : ℕ) → PrefixText spelt text n l → refusal w n l ≡ None → out ≡ written n ++ (47 ∷ decimal l) → Rewritten spelt written w text out
+  as_address : (n : ℕ) → NoSlash text → spelt text n → out ≡ written n → Rewritten spelt written w text out
 
 -- the text spells nothing, for the cause given
 pub data Unread (spelt : List ℕ → ℕ → Type 0) (w : ℕ) (text : List ℕ) (f : Fault) : Type 0 where
-  no-prefix : (NoSlash text → ⊥) → Refused spelt w text f → Unread spelt w text f
+  no_prefix : (NoSlash text → ⊥) → Refused spelt w text f → Unread spelt w text f
   no_address : NoSlash text → f ≡ alone Malformed → ((n : ℕ) → spelt text n → ⊥) → Unread spelt w text f
 
 -- what rewriting to lent memory answers, and what it leaves there

@@ -1,4 +1,6 @@
 // The texts of prefixes and addresses, read and written, for any family.
+#![tactic(auto)]
+
 pub mod family;
 pub mod four;
 pub mod prefixes;

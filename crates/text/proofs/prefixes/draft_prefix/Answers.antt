@@ -1,5 +1,5 @@
 -- The address, the slash and the length stand one behind the other.
-use Rattle.std.proofs.Common.{◌∷◌, ◌++◌, length, decimal, ap, ◌∙◌, arith}
+use Rattle.std.proofs.Common.{◌∷◌, ◌++◌, decimal, ap, ◌∙◌, arith}
 use Rattle.numeral.specs.Drafts.{text}
 use Rattle.text.proofs.Memory.{drafted_whole}
 use Rattle.text.proofs.prefixes.draft_prefix.Goals as goal
@@ -12,5 +12,5 @@ returns g c =
     let w = g.F.TextFamily.written n in
     let short = g.met.F.TextFamily.short n (g.met.F.Family.valid p).small in
     let a = c.draft-draft.ensures.text ∙ ap g.F.TextFamily.written c.first.ensures in
-    drafted_whole w (text c.draft-draft.result) (text c.push.new.self) (text c.decimal.new.self) c.length.result short (omega (arith, c.length.type-inv)) a c.push.ensures c.decimal.ensures
+    drafted_whole w (text c.draft-draft.result) (text c.push.new.self) (text c.decimal.new.self) c.length.result short (omega (arith, c.length.type_inv)) a c.push.ensures c.decimal.ensures
     ∙ ap (λ l. w ++ (47 ∷ decimal l)) c.length.ensures

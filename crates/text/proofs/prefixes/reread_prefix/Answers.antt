@@ -24,25 +24,25 @@ not_refused spelt w text b f single v t =
 spelt_itself : (spelt : List ℕ → ℕ → Type 0) (written : ℕ → List ℕ) (text : List ℕ) (b : Block) → spelt (written b.first) b.first → b.length ≤ 128 → text ≡ prefix_text written b → PrefixText spelt text b.first b.length
 spelt_itself spelt written text b s short e = record { address = written b.first; whole = e; first = s; small = omega arith }
 
-pub returns-in-err-read-prefix : goal.returns-in-err-read-prefix
-returns-in-err-read-prefix g c =
+pub returns-in_err-read_prefix : goal.returns-in_err-read_prefix
+returns-in_err-read_prefix g c =
     let f = g.F.Family.form in
     let p = c.args.p.now in
     let v = g.met.F.Family.valid p in
-    let w = c.in-ok-n.ensures in
-    let front = wrote_front (prefix_text g.F.TextFamily.written (block f p)) c.args.memory.now c.write-prefix.new.memory c.in-ok-n.n w.0 w.2 in
-    let t = spelt_itself g.F.TextFamily.spelt g.F.TextFamily.written (take (c.in-ok-n.n - 0) c.write-prefix.new.memory) (block f p) (g.met.F.TextFamily.readable (f.first p) v.small) (omega (arith, v.within, g.met.F.Family.narrow)) front in
-    absurd (not_refused g.F.TextFamily.spelt f.width (take (c.in-ok-n.n - 0) c.write-prefix.new.memory) (block f p) c.in-err-read-prefix.field-0.0 g.met.F.TextFamily.single v t c.in-err-read-prefix.ensures.0)
+    let w = c.in_ok-n.ensures in
+    let front = wrote_front (prefix_text g.F.TextFamily.written (block f p)) c.args.memory.now c.write_prefix.new.memory c.in_ok-n.n w.0 w.2 in
+    let t = spelt_itself g.F.TextFamily.spelt g.F.TextFamily.written (take (c.in_ok-n.n - 0) c.write_prefix.new.memory) (block f p) (g.met.F.TextFamily.readable (f.first p) v.small) (omega (arith, v.within, g.met.F.Family.narrow)) front in
+    absurd (not_refused g.F.TextFamily.spelt f.width (take (c.in_ok-n.n - 0) c.write_prefix.new.memory) (block f p) c.in_err-read_prefix.field-0.0 g.met.F.TextFamily.single v t c.in_err-read_prefix.ensures.0)
 
 pub returns : goal.returns
 returns g c =
     let f = g.F.Family.form in
     let p = c.args.p.now in
-    let q = c.read-prefix.new.into in
+    let q = c.read_prefix.new.into in
     let v = g.met.F.Family.valid p in
-    let w = c.in-ok-n.ensures in
-    let text = take (c.in-ok-n.n - 0) c.write-prefix.new.memory in
-    let front = wrote_front (prefix_text g.F.TextFamily.written (block f p)) c.args.memory.now c.write-prefix.new.memory c.in-ok-n.n w.0 w.2 in
+    let w = c.in_ok-n.ensures in
+    let text = take (c.in_ok-n.n - 0) c.write_prefix.new.memory in
+    let front = wrote_front (prefix_text g.F.TextFamily.written (block f p)) c.args.memory.now c.write_prefix.new.memory c.in_ok-n.n w.0 w.2 in
     let t = spelt_itself g.F.TextFamily.spelt g.F.TextFamily.written text (block f p) (g.met.F.TextFamily.readable (f.first p) v.small) (omega (arith, v.within, g.met.F.Family.narrow)) front in
-    let e = spelt_one g.F.TextFamily.spelt text g.met.F.TextFamily.single (f.first q) (f.length q) (f.first p) (f.length p) c.in-ok-read-prefix.ensures t in
+    let e = spelt_one g.F.TextFamily.spelt text g.met.F.TextFamily.single (f.first q) (f.length q) (f.first p) (f.length p) c.in_ok-read_prefix.ensures t in
     record { wrote = w; back = g.met.F.Family.same q p (block_same (f.first q) (f.first p) (f.length q) (f.length p) e.0 e.1) }
