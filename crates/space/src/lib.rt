@@ -1,5 +1,7 @@
 // What grants blocks: a space of places with a set of places out, and the calls on it. Places are numbers;
 // `places` has their arithmetic.
+#![tactic(auto)]
+
 ghost use Rattle.std.specs.Prelude.{◌≡◌, false};
 ghost use Rattle.space.specs.Meaning.{Meaning, Sound, Least, is_open, is_busy, answers, after_take, after_give};
 

@@ -9,8 +9,8 @@ pub returns-else-m-gt0 : goal.returns-else-m-gt0
 returns-else-m-gt0 c =
     let n = c.args.n in
     let m = c.args.m in
-    let a = c.depth-of-deep.ensures.value in
-    let b = c.depth-of-high.ensures.value in
+    let a = c.depth_of-deep.ensures.value in
+    let b = c.depth_of-high.ensures.value in
     false_from (lies n m) (λ l.
     let t = lies_by_depths n m l in
     elim c.else-m-gt0.branch [

@@ -8,7 +8,7 @@ pub returns : goal.returns
 returns c =
     let n = c.args.n in
     let m = c.args.m in
-    let e : c.is-some.result ≡ lies n m = c.is-some.ensures ∙ some_lies c.halvings.result n m c.halvings.ensures in
+    let e : c.is_some.result ≡ lies n m = c.is_some.ensures ∙ some_lies c.halvings.result n m c.halvings.ensures in
     record {
       value = e;
       halved = λ t. let l : lies n m ≡ true = sym e ∙ t in (lies_pos n m l, halved_lies n m (lies_pos n m l) l);
