@@ -24,7 +24,8 @@ impl<S> HoldBack<S> {
 
 // The first place of n's depth behind all that overlap h, where n does.
 fn past(n: usize, h: usize) -> usize
-    requires { (overlap n h ≡ true) × (n < 2 ^ 13) }
+    requires overlapping { overlap n h ≡ true }
+    requires low { n < 2 ^ 13 }
     ensures further { n < result }
     ensures between { (j : ℕ) → n ≤ j → j < result → overlap j h ≡ true }
 {

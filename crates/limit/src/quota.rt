@@ -1,5 +1,5 @@
 // A quota: the places out of a space never have more units together than a given number.
-ghost use Rattle.std.specs.Prelude.{◌≡◌, ℕ, ◌+◌, ◌-◌, ◌*◌, ◌^◌, ◌<◌, ◌≤◌, leb, nat_le};
+ghost use Rattle.std.specs.Prelude.{◌≡◌, ℕ, ◌+◌, ◌-◌, ◌*◌, ◌^◌, ◌<◌, ◌≤◌, nat_le};
 ghost use Rattle.space.specs.Places.{size, units};
 ghost use Rattle.limit.specs.Limits.{within_quota, limited_sound};
 ghost use Rattle.limit.specs.Walk.{units_in};
@@ -24,7 +24,10 @@ impl<S> Quota<S> {
 
 // The units of the places out that lie in n, a place of 2^h units. Only where something is out it goes deeper.
 fn count<S: Space>(space: &S, n: usize, h: usize) -> usize
-    requires { (0 < n) × ((n < 2 ^ 13) × ((h ≤ 12) × ((n + 1) * 2 ^ h ≤ 2 ^ 13))) }
+    requires above { 0 < n }
+    requires low { n < 2 ^ 13 }
+    requires shallow { h ≤ 12 }
+    requires fits { (n + 1) * 2 ^ h ≤ 2 ^ 13 }
     ensures value { result ≡ units_in h (S.Space.meaning space.now).out n }
     ensures bound { result ≤ 2 ^ h }
 {
@@ -59,7 +62,7 @@ impl<S: Space> Quota<S> {
 impl<S: Space> Space for Quota<S> {
     ghost meaning = { λ s. within_quota (S.Space.meaning s.below) s.most };
 
-    ghost sound = { λ s. limited_sound (S.Space.meaning s.below) (λ set n. leb (units (S.Space.meaning s.below).depth set + size (S.Space.meaning s.below).depth n) s.most) (S.Space.sound s.below) };
+    ghost sound = { λ s. limited_sound (S.Space.meaning s.below) (λ set n. nat_le (units (S.Space.meaning s.below).depth set + size (S.Space.meaning s.below).depth n) s.most) (S.Space.sound s.below) };
 
     fn depth(&self) -> usize {
         self.below.depth()

@@ -1,4 +1,4 @@
-use Rattle.std.proofs.Common.{◌≡◌, ◌-◌, sym, ap, ◌∙◌, arith}
+use Rattle.std.proofs.Common.{◌≡◌, sym, ap, ◌∙◌, arith}
 use Rattle.std.proofs.lemmas.Nat.{one_shl}
 use Rattle.limit.specs.Walk.{units_in}
 use Rattle.limit.proofs.Walking.{units_whole, units_idle, units_step, units_leaf, pow_half, child_fits}
@@ -26,13 +26,13 @@ returns-then-h-eq0 g t c =
 
 pub count-requires : goal.count-requires
 count-requires g t c κs within =
-    let f = child_fits c.args.n c.args.h (omega arith) c.requires.1.1.1 in
+    let f = child_fits c.args.n c.args.h (omega arith) c.requires.fits in
     (omega (arith, c.decreases), (within, (omega arith, (omega arith, (omega arith, f.0)))))
 
 pub count-requires-2 : goal.count-requires-2
 count-requires-2 g t c κs within =
-    let f = child_fits c.args.n c.args.h (omega arith) c.requires.1.1.1 in
-    (omega (arith, c.decreases), (within, (omega arith, (omega arith, (omega arith, f.1)))))
+    let f = child_fits c.args.n c.args.h (omega arith) c.requires.fits in
+    (omega (arith, c.decreases), (within, (omega arith, (omega arith, (omega arith, omega (arith, f.0, f.1))))))
 
 pub returns : goal.returns
 returns g t c =

@@ -8,7 +8,7 @@ count-requires g c =
     let shallow = (g.S.Space.sound c.args.space.now).shallow in
     let e = c.depth.ensures in
     let p = pow_mono {i = c.depth.result} {j = 12} (omega arith) in
-    (omega arith, (omega arith, (omega arith, omega arith)))
+    record { above = omega arith; low = omega arith; shallow = omega arith; fits = omega arith }
 
 pub returns : goal.returns
 returns g c =

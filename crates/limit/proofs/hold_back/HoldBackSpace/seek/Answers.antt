@@ -11,7 +11,7 @@ past-from-requires g c =
     let lt = open_below m c.in-Some.n a.is in
     let shallow = (g.S.Space.sound below).shallow in
     let p = pow_mono {i = m.depth + 1} {j = 13} (omega arith) in
-    (sym c.if-not-overlaps.ensures, omega arith)
+    record { overlapping = sym c.if-not-overlaps.ensures; low = omega arith }
 
 pub returns-then-not-overlaps : goal.returns-then-not-overlaps
 returns-then-not-overlaps g c =
