@@ -24,8 +24,8 @@ module _ (d : ℕ) (b : List ℕ) (tidy : Tidy d b) where
       let p = pow_more d in
       rw (lt-ltb n (2 ^ d) lt) at (tidy n (place_of d n pos (omega arith)))
 
-  child-zero : (n k : ℕ) → byte b (2 * n) + byte b (2 * n + 1) ≡ 0 → k / 2 ≡ n → byte b k ≡ 0
-  child-zero n k s e =
+  halves_zero : (n k : ℕ) → byte b (2 * n) + byte b (2 * n + 1) ≡ 0 → k / 2 ≡ n → byte b k ≡ 0
+  halves_zero n k s e =
       ⊎_elim
       (λ l. rw l (omega arith))
       (λ (ne : k ≡ 2 * n → ⊥). let r : k ≡ 2 * n + 1 = omega arith in rw r (omega arith))
@@ -35,25 +35,25 @@ module _ (d : ℕ) (b : List ℕ) (tidy : Tidy d b) where
   pub zero_child : (k : ℕ) → 1 < k → k < 2 ^ (d + 1) → byte b (k / 2) ≡ 0 → byte b k ≡ 0
   zero_child k pos lt e =
       let p = pow_more d in
-      child-zero (k / 2) k (agrees_none (byte b (k / 2)) _ (inner (k / 2) (omega arith) (omega arith)) e) refl
+      halves_zero (k / 2) k (agrees_none (byte b (k / 2)) _ (inner (k / 2) (omega arith) (omega arith)) e) refl
 
-  one-child : (k : ℕ) → 1 < k → k < 2 ^ (d + 1) → byte b (k / 2) ≡ 1 → byte b k ≡ 0
-  one-child k pos lt e =
+  one_child : (k : ℕ) → 1 < k → k < 2 ^ (d + 1) → byte b (k / 2) ≡ 1 → byte b k ≡ 0
+  one_child k pos lt e =
       let p = pow_more d in
-      child-zero (k / 2) k (agrees_one (byte b (k / 2)) _ (inner (k / 2) (omega arith) (omega arith)) e) refl
+      halves_zero (k / 2) k (agrees_one (byte b (k / 2)) _ (inner (k / 2) (omega arith) (omega arith)) e) refl
 
-  one-under-by : (j k n : ℕ) → k ≤ j → 0 < n → byte b n ≡ 1 → lies k n ≡ true → (k ≢ n) → k < 2 ^ (d + 1) → byte b k ≡ 0
-  one-under-by zero k n le pos z l ne lt = absurd (omega (arith, lies_le k n l))
-  one-under-by (suc j) k n le pos z l ne lt =
+  one_under_by : (j k n : ℕ) → k ≤ j → 0 < n → byte b n ≡ 1 → lies k n ≡ true → (k ≢ n) → k < 2 ^ (d + 1) → byte b k ≡ 0
+  one_under_by zero k n le pos z l ne lt = absurd (omega (arith, lies_le k n l))
+  one_under_by (suc j) k n le pos z l ne lt =
       let up = lies_le k n l in
-      let at-half : lies (k / 2) n ≡ true = sym (lies_half k n (omega arith) ne) ∙ l in
+      let at_half : lies (k / 2) n ≡ true = sym (lies_half k n (omega arith) ne) ∙ l in
       ⊎_elim
-      (λ e. one-child k (omega arith) lt (ap (byte b) e ∙ z))
-      (λ other. zero_child k (omega arith) lt (one-under-by j (k / 2) n (omega arith) pos z at-half other (omega arith)))
+      (λ e. one_child k (omega arith) lt (ap (byte b) e ∙ z))
+      (λ other. zero_child k (omega arith) lt (one_under_by j (k / 2) n (omega arith) pos z at_half other (omega arith)))
       (cases_eq (k / 2) n)
 
   pub one_under : (k n : ℕ) → 0 < n → byte b n ≡ 1 → lies k n ≡ true → (k ≢ n) → k < 2 ^ (d + 1) → byte b k ≡ 0
-  one_under k n pos z l ne lt = one-under-by k k n (omega arith) pos z l ne lt
+  one_under k n pos z l ne lt = one_under_by k k n (omega arith) pos z l ne lt
 
 -- what it is to be out
 pub record Out (d : ℕ) (b : List ℕ) (n : ℕ) : Type 0 where

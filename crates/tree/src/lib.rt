@@ -1,4 +1,6 @@
 // A space kept as a binary tree of bytes in lent memory, one byte for each place.
+#![tactic(auto)]
+
 ghost use Rattle.std.specs.Prelude.{◌≡◌, ℕ, ◌+◌, ◌^◌, ◌<◌, ◌≤◌, true, false, not, ◌&&◌, ◌||◌, ◌++◌, length, take, drop, replicate, if◌then◌else◌, MatchOption, ◌==◌, ◌≢◌, nat_eq, nat_lt};
 ghost use Rattle.space.specs.Places.{lies, is_place};
 ghost use Rattle.space.specs.Meaning.{Free, blocked, is_open, after_take, after_give, fresh, shut};
@@ -136,9 +138,11 @@ fn wipe(b: &mut [u8], n: usize)
 
 // Marks n as out, and each place above it as one that holds a place out.
 fn mark(b: &mut [u8], d: usize, n: usize)
-    requires range { (is_place d n ≡ true) × (2 ^ (d + 1) ≤ length b.old) }
+    requires place { is_place d n ≡ true }
+    requires long { 2 ^ (d + 1) ≤ length b.old }
     requires tidy { Tidy d b.old }
-    requires free { (byte b.old n ≡ 0) × (((k : ℕ) → lies n k ≡ true → byte b.old k ≢ 1)) }
+    requires free { byte b.old n ≡ 0 }
+    requires under { (k : ℕ) → lies n k ≡ true → byte b.old k ≢ 1 }
     ensures tidy { Tidy d b.new }
     ensures ones { (k : ℕ) → (byte b.new k == 1) ≡ (k == n || byte b.old k == 1) }
     ensures beyond { (k : ℕ) → is_place d k ≡ false → byte b.new k ≡ byte b.old k }
@@ -153,7 +157,9 @@ fn mark(b: &mut [u8], d: usize, n: usize)
 
 // Clears n, which is out, and sets each place above it by its two halves.
 fn clear(b: &mut [u8], d: usize, n: usize)
-    requires range { (is_place d n ≡ true) × ((2 ^ (d + 1) ≤ length b.old) × (d ≤ 12)) }
+    requires place { is_place d n ≡ true }
+    requires long { 2 ^ (d + 1) ≤ length b.old }
+    requires shallow { d ≤ 12 }
     requires tidy { Tidy d b.old }
     requires out { byte b.old n ≡ 1 }
     ensures tidy { Tidy d b.new }
@@ -179,7 +185,10 @@ fn above(l: u8, r: u8) -> u8
 // Nothing if n overlaps no place out; else a place from n on up to which every one overlaps a place out.
 // Where a place above n is out, that is the last of n's depth in it, so that a search leaves it in one step.
 fn obstacle(b: &[u8], d: usize, n: usize) -> Option<usize>
-    requires range { (is_place d n ≡ true) × ((2 ^ (d + 1) ≤ length b.now) × ((0 < d) × (d ≤ 12))) }
+    requires place { is_place d n ≡ true }
+    requires long { 2 ^ (d + 1) ≤ length b.now }
+    requires live { 0 < d }
+    requires shallow { d ≤ 12 }
     requires tidy { Tidy d b.now }
     ensures { MatchOption result (blocked (tree_meaning d b.now) n ≡ false) (Blocked (tree_meaning d b.now) n) }
 {
@@ -198,7 +207,11 @@ fn obstacle(b: &[u8], d: usize, n: usize) -> Option<usize>
 // The first place from n to before e that overlaps no place out. Each turn leaves a place out behind,
 // so the cost goes with the number of those and not with e - n.
 fn first_free(b: &[u8], d: usize, n: usize, e: usize) -> Option<usize>
-    requires range { (0 < n) × ((e ≤ 2 ^ (d + 1)) × ((2 ^ (d + 1) ≤ length b.now) × ((0 < d) × (d ≤ 12)))) }
+    requires above { 0 < n }
+    requires below { e ≤ 2 ^ (d + 1) }
+    requires long { 2 ^ (d + 1) ≤ length b.now }
+    requires live { 0 < d }
+    requires shallow { d ≤ 12 }
     requires tidy { Tidy d b.now }
     ensures { MatchOption result ((j : ℕ) → n ≤ j → j < e → blocked (tree_meaning d b.now) j ≡ true) (Free (tree_meaning d b.now) n e) }
 {

@@ -6,16 +6,16 @@ use Rattle.tree.proofs.Climb.{climb_start, climb_step, climb_end, ones_without, 
 use Rattle.tree.proofs.clear.Goals as goal
 
 pub bounds-b-n : goal.bounds-b-n
-bounds-b-n c = let low = place_below c.args.d c.args.n c.requires.range.0 in omega arith
+bounds-b-n c = let low = place_below c.args.d c.args.n c.requires.place in omega arith
 
 pub loop-a-init : goal.loop-a-init
 loop-a-init c =
     let b = c.args.b.now in
     let n = c.args.n in
     let d = c.args.d in
-    let pos = place_pos d n c.requires.range.0 in
-    let low = place_below d n c.requires.range.0 in
-    climb_start d b n pos low c.requires.range.1.0 c.requires.tidy _ (omega arith)
+    let pos = place_pos d n c.requires.place in
+    let low = place_below d n c.requires.place in
+    climb_start d b n pos low c.requires.long c.requires.tidy _ (omega arith)
     (λ lt. agrees_one _ _ (inner d b c.requires.tidy n pos lt) c.requires.out)
     (λ k l ne one.
     let z = one_under d b c.requires.tidy n k (lies_pos n k l) one l (λ q. ne (sym q)) low in
@@ -42,9 +42,9 @@ returns c =
     let w = c.loop-a.invariant in
     let b = c.args.b.now in
     let n = c.args.n in
-    let low = place_below c.args.d n c.requires.range.0 in
+    let low = place_below c.args.d n c.requires.place in
     record {
       tidy = climb_end _ _ _ _ w (omega arith);
       ones = λ k. w.ones k ∙ ones_without b n k (omega arith);
-      beyond = λ k off. w.beyond k off ∙ byte_beyond c.args.d b n 0 k c.requires.range.0 off;
+      beyond = λ k off. w.beyond k off ∙ byte_beyond c.args.d b n 0 k c.requires.place off;
     }

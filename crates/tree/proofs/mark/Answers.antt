@@ -6,18 +6,18 @@ use Rattle.tree.proofs.Climb.{climb_start, climb_step, climb_end, parent_set, on
 use Rattle.tree.proofs.mark.Goals as goal
 
 pub bounds-b-n : goal.bounds-b-n
-bounds-b-n c = let low = place_below c.args.d c.args.n c.requires.range.0 in omega arith
+bounds-b-n c = let low = place_below c.args.d c.args.n c.requires.place in omega arith
 
 pub loop-a-init : goal.loop-a-init
 loop-a-init c =
     let b = c.args.b.now in
     let n = c.args.n in
     let d = c.args.d in
-    let pos = place_pos d n c.requires.range.0 in
-    let low = place_below d n c.requires.range.0 in (
-      climb_start d b n pos low c.requires.range.1 c.requires.tidy _ (omega arith)
-          (λ lt. agrees_none _ _ (inner d b c.requires.tidy n pos lt) c.requires.free.0)
-          (λ k l ne one. c.requires.free.1 k l one)
+    let pos = place_pos d n c.requires.place in
+    let low = place_below d n c.requires.place in (
+      climb_start d b n pos low c.requires.long c.requires.tidy _ (omega arith)
+          (λ lt. agrees_none _ _ (inner d b c.requires.tidy n pos lt) c.requires.free)
+          (λ k l ne one. c.requires.under k l one)
           (length-set b n 1),
       λ h. parent_set b n 1 (omega arith) (omega arith),
     )
@@ -38,9 +38,9 @@ returns c =
     let w = c.loop-a.invariant.0 in
     let b = c.args.b.now in
     let n = c.args.n in
-    let low = place_below c.args.d n c.requires.range.0 in
+    let low = place_below c.args.d n c.requires.place in
     record {
       tidy = climb_end _ _ _ _ w (omega arith);
       ones = λ k. w.ones k ∙ ones_with b n k (omega arith);
-      beyond = λ k off. w.beyond k off ∙ byte_beyond c.args.d b n 1 k c.requires.range.0 off;
+      beyond = λ k off. w.beyond k off ∙ byte_beyond c.args.d b n 1 k c.requires.place off;
     }

@@ -9,8 +9,8 @@ use Rattle.tree.proofs.obstacle.Goals as goal
 
 pub returns-then-b-n-ne0 : goal.returns-then-b-n-ne0
 returns-then-b-n-ne0 c =
-    let r = c.requires.range in
-    hit_self c.args.d c.args.b.now r.1.1.0 c.requires.tidy c.args.n r.0 c.if-b-n-ne0.true
+    let r = c.requires in
+    hit_self c.args.d c.args.b.now r.live r.tidy c.args.n r.place c.if-b-n-ne0.true
 
 pub loop-k-init : goal.loop-k-init
 loop-k-init c = λ i lt one.
@@ -33,29 +33,29 @@ returns-then-b-a-eq1 c =
     let n = c.args.n in
     let k = c.loop-k.k in
     let a = n / 2 ^ k in
-    let r = c.requires.range in
-    let low = place_below d n r.0 in
-    let deep = depth_le d n r.0 in
-    let le : k ≤ depth_of n = omega (arith, c.depth-of-k-end.ensures.value) in
+    let r = c.requires in
+    let low = place_below d n r.place in
+    let deep = depth_le d n r.place in
+    let le : k ≤ depth_of n = omega (arith, c.depth_of-k-end.ensures.value) in
     let top : 2 ^ (d + 1) ≤ 2 ^ 13 = (let h : d + 1 ≤ 13 = omega arith in pow_mono h) in
     let small : a ≤ n = shr_le n k in
     let e : ((a + 1) * 2 ^ k) % 2 ^ 64 ≡ (a + 1) * 2 ^ k = shl_whole (a + 1) 14 k 64 (omega arith) (omega arith) in
     subst (λ x. Blocked (tree_meaning d c.args.b.now) n (x - 1)) (sym e)
-    (hit_row d c.args.b.now r.1.1.0 n k (halved_pos n k (place_pos d n r.0) le) low (omega arith) c.if-b-a-eq1.true)
+    (hit_row d c.args.b.now r.live n k (halved_pos n k (place_pos d n r.place) le) low (omega arith) c.if-b-a-eq1.true)
 
 pub returns-else-b-n-ne0 : goal.returns-else-b-n-ne0
 returns-else-b-n-ne0 c =
-    let r = c.requires.range in
-    hit_nowhere c.args.d c.args.b.now r.1.1.0 c.requires.tidy c.args.n r.0 c.if-b-n-ne0.false
-    (λ i le. c.loop-k.invariant i (omega (arith, c.depth-of-k-end.ensures.value)))
+    let r = c.requires in
+    hit_nowhere c.args.d c.args.b.now r.live r.tidy c.args.n r.place c.if-b-n-ne0.false
+    (λ i le. c.loop-k.invariant i (omega (arith, c.depth_of-k-end.ensures.value)))
 
 pub returns-else-b-a-eq1 : goal.returns-else-b-a-eq1
 returns-else-b-a-eq1 c =
-    let r = c.requires.range in
+    let r = c.requires in
     let n = c.args.n in
     let k = c.loop-k.k in
-    hit_nowhere c.args.d c.args.b.now r.1.1.0 c.requires.tidy n r.0 c.if-b-n-ne0.false
+    hit_nowhere c.args.d c.args.b.now r.live r.tidy n r.place c.if-b-n-ne0.false
     (λ i le one. ⊎_elim
     (λ q. c.if-b-a-eq1.false (ap (λ x. byte c.args.b.now (n / 2 ^ x)) (sym q) ∙ one))
-    (λ ne. c.loop-k.invariant i (let e = c.depth-of-k-end.ensures.value in omega arith) one)
+    (λ ne. c.loop-k.invariant i (let e = c.depth_of-k-end.ensures.value in omega arith) one)
     (cases_eq i k))

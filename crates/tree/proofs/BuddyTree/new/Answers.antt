@@ -6,12 +6,17 @@ use Rattle.tree.specs.Tree.{byte, room}
 use Rattle.tree.proofs.Made.{wiped_clear, tidy_wiped, fresh_wiped, room-true}
 use Rattle.tree.proofs.BuddyTree.new.Goals as goal
 
-pub invariant-of-result-2 : goal.invariant-of-result-2
-invariant-of-result-2 c =
+pub invariant_of-result-2 : goal.invariant_of-result-2
+invariant_of-result-2 c =
     let d = c.args.depth in
     let e : (1 * 2 ^ (d + 1)) % 2 ^ 64 ≡ 2 ^ (d + 1) = one_shl (d + 1) 64 (omega arith) in
     let clear : (k : ℕ) → k < 2 ^ (d + 1) → byte c.wipe.new.b k ≡ 0 = λ k lt. wiped_clear _ c.args.bytes.now _ c.wipe.ensures k (omega arith) in
-    (omega arith, (λ live. omega (arith, c.wipe.auto.b, c.if-bytes-n.false), (λ live. tidy_wiped d c.wipe.new.b clear, (λ live. clear 0 (pow_pos (d + 1)), tt))))
+    record {
+      shallow = omega arith;
+      sized = λ live. omega (arith, c.wipe.auto.b, c.if-bytes-n.false);
+      tidy = λ live. tidy_wiped d c.wipe.new.b clear;
+      first = λ live. clear 0 (pow_pos (d + 1));
+    }
 
 pub returns : goal.returns
 returns c =

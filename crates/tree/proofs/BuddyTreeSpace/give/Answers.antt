@@ -16,12 +16,17 @@ returns-then-not-out c =
       beyond = λ k le. refl;
     }
 
-pub invariant-of-self : goal.invariant-of-self
-invariant-of-self c =
+pub invariant_of-self : goal.invariant_of-self
+invariant_of-self c =
     let s = c.args.self.now in
     let q : c.replace-b.result.now ≡ s.bytes.now = ap (λ r. r.now) c.replace-b.ensures.value in
     let long = ap length q in
-    (s.shallow, (λ live. omega (arith, s.sized live, c.clear.auto.b), (λ live. c.clear.ensures.tidy, (λ live. c.clear.ensures.beyond 0 refl ∙ ap (λ x. byte x 0) q ∙ s.first live, tt))))
+    record {
+      shallow = s.shallow;
+      sized = λ live. omega (arith, s.sized live, c.clear.auto.b);
+      tidy = λ live. c.clear.ensures.tidy;
+      first = λ live. c.clear.ensures.beyond 0 refl ∙ ap (λ x. byte x 0) q ∙ s.first live;
+    }
 
 pub returns : goal.returns
 returns c =
@@ -32,6 +37,6 @@ returns c =
       after = tree_given s.depth s.bytes.now c.clear.new.b c.args.n
           (λ k. c.clear.ensures.ones k ∙ ap (λ x. not (eqb k c.args.n) && eqb (byte x k) 1) q);
       refused = λ f. absurd (both_ways true f refl);
-      named = ap (λ r. r.name) c.replace-b.ensures.value;
+      named = ap (λ r. r.ghost_name) c.replace-b.ensures.value;
       beyond = λ k le. c.clear.ensures.beyond k (past_place s.depth k le) ∙ ap (λ x. byte x k) q;
     }

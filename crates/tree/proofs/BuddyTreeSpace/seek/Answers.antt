@@ -31,25 +31,29 @@ returns-then-d-high c =
     let s = c.args.self.now in
     let m = tree_meaning s.depth s.bytes.now in
     λ k. elim c.then-d-high.branch [
-      | then-d-high-via-then-d-high w ↦ answer_high m c.args.w c.args.d c.args.f k (omega (arith, w.if-d-high.true, c.depth-of-high.ensures.value))
+      | then-d-high-via-then-d-high w ↦ answer_high m c.args.w c.args.d c.args.f k (omega (arith, w.if-d-high.true, c.depth_of-high.ensures.value))
       | then-d-high-via-else-d-high+then-d-self w ↦ too_deep m c.args.w c.args.d c.args.f k (omega (arith, w.if-d-self.true))
     ]
 
-pub first-free-requires : goal.first-free-requires
-first-free-requires c =
+pub first_free-requires : goal.first_free-requires
+first_free-requires c =
     let s = c.args.self.now in
     let t = s.depth in
     let w = c.args.w in
     let d = c.args.d in
     let p = within_parts t w (sym c.if-not-has.ensures) in
-    let h = c.depth-of-high.result in
-    let z = width d h w (let x = s.shallow in omega arith) c.depth-of-high.ensures.value in
+    let h = c.depth_of-high.result in
+    let z = width d h w (let x = s.shallow in omega arith) c.depth_of-high.ensures.value in
     let m : w * ((1 * 2 ^ (d - h)) % 2 ^ 64) ≡ w * size d w = ap (λ x. w * x) z in
-    let r = range_within w d p.1 (omega (arith, c.depth-of-high.ensures.value)) in
+    let r = range_within w d p.1 (omega (arith, c.depth_of-high.ensures.value)) in
     let top : 2 ^ (d + 1) ≤ 2 ^ (t + 1) = (let le : d + 1 ≤ t + 1 = omega arith in pow_mono le) in
     let q = pow_pos d in
     record {
-      range = (omega (arith, r.0), (omega (arith, r.1), (s.sized p.0, (p.0, s.shallow))));
+      above = omega (arith, r.0);
+      below = omega (arith, r.1);
+      long = s.sized p.0;
+      live = p.0;
+      shallow = s.shallow;
       tidy = s.tidy p.0;
     }
 
@@ -60,8 +64,8 @@ returns c =
     let w = c.args.w in
     let d = c.args.d in
     let p = within_parts t w (sym c.if-not-has.ensures) in
-    let h = c.depth-of-high.result in
-    let z = width d h w (let x = s.shallow in omega arith) c.depth-of-high.ensures.value in
+    let h = c.depth_of-high.result in
+    let z = width d h w (let x = s.shallow in omega arith) c.depth_of-high.ensures.value in
     let m : w * ((1 * 2 ^ (d - h)) % 2 ^ 64) ≡ w * size d w = ap (λ x. w * x) z in
     found (tree_meaning t s.bytes.now) w d c.args.f _ _ c.first_free.result c.first_free.ensures
-    (λ k. lt-ltb 0 t p.0) p.1 (omega (arith, c.depth-of-high.ensures.value)) (omega arith) (omega arith) (omega arith) (λ j a b. omega arith) (omega arith)
+    (λ k. lt-ltb 0 t p.0) p.1 (omega (arith, c.depth_of-high.ensures.value)) (omega arith) (omega arith) (omega arith) (λ j a b. omega arith) (omega arith)

@@ -21,17 +21,24 @@ mark-requires c =
     let low = place_below d n o.at in
     let tidy : Tidy d b = subst (Tidy d) q (s.tidy live) in
     record {
-      range = (o.at, subst (λ x. 2 ^ (d + 1) ≤ length x) q (s.sized live));
+      place = o.at;
+      long = subst (λ x. 2 ^ (d + 1) ≤ length x) q (s.sized live);
       tidy = tidy;
-      free = (clear_here d b live tidy n (place_pos d n o.at) low o.free, clear_above d b live tidy n low o.free);
+      free = clear_here d b live tidy n (place_pos d n o.at) low o.free;
+      under = clear_above d b live tidy n low o.free;
     }
 
-pub invariant-of-self : goal.invariant-of-self
-invariant-of-self c =
+pub invariant_of-self : goal.invariant_of-self
+invariant_of-self c =
     let s = c.args.self.now in
     let q : c.replace-b.result.now ≡ s.bytes.now = ap (λ r. r.now) c.replace-b.ensures.value in
     let long = ap length q in
-    (s.shallow, (λ live. omega (arith, s.sized live, c.mark.auto.b), (λ live. c.mark.ensures.tidy, (λ live. c.mark.ensures.beyond 0 refl ∙ ap (λ x. byte x 0) q ∙ s.first live, tt))))
+    record {
+      shallow = s.shallow;
+      sized = λ live. omega (arith, s.sized live, c.mark.auto.b);
+      tidy = λ live. c.mark.ensures.tidy;
+      first = λ live. c.mark.ensures.beyond 0 refl ∙ ap (λ x. byte x 0) q ∙ s.first live;
+    }
 
 pub returns : goal.returns
 returns c =
@@ -42,6 +49,6 @@ returns c =
       after = tree_taken s.depth s.bytes.now c.mark.new.b c.args.n (sym c.if-not-open.ensures)
           (λ k. c.mark.ensures.ones k ∙ ap (λ x. eqb k c.args.n || eqb (byte x k) 1) q);
       refused = λ f. absurd (both_ways true f refl);
-      named = ap (λ r. r.name) c.replace-b.ensures.value;
+      named = ap (λ r. r.ghost_name) c.replace-b.ensures.value;
       beyond = λ k le. c.mark.ensures.beyond k (past_place s.depth k le) ∙ ap (λ x. byte x k) q;
     }
