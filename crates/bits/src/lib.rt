@@ -1,5 +1,7 @@
 // Runs of bits in a row of words: bit i is bit i % 64, from the least significant, of word i / 64. A bit that
 // the words do not have is 0. Each loop goes word by word, whatever the ends of its run.
+#![tactic(auto)]
+
 ghost use Rattle.std.specs.Prelude.{◌≡◌, ℕ, ◌+◌, ◌-◌, ◌*◌, ◌%◌, ◌^◌, ◌<◌, ◌≤◌, min, true, false, not, ◌&&◌, ◌||◌, ◌++◌, length, drop, replicate, nat_lt, slice_index};
 ghost use Rattle.bits.specs.Bit.{bit, within};
 
