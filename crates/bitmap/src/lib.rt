@@ -1,4 +1,6 @@
 // A space whose places out are marked in two shares of lent words.
+#![tactic(auto)]
+
 ghost use Rattle.std.specs.Prelude.{◌≡◌, ℕ, ◌+◌, ◌-◌, ◌*◌, ◌/◌, ◌^◌, ◌<◌, ◌≤◌, max, true, false, not, ◌&&◌, ◌++◌, length, take, drop, replicate, if◌then◌else◌, MatchOption, nat_lt, slice_index};
 ghost use Rattle.space.specs.Places.{is_place, size};
 ghost use Rattle.space.specs.Meaning.{Free, blocked, is_open, is_busy, after_take, after_give, fresh, shut};

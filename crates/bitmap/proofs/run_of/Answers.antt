@@ -7,15 +7,15 @@ use Rattle.bitmap.proofs.Words.{pow_12}
 use Rattle.bitmap.proofs.run_of.Goals as goal
 use Rattle.bitmap.proofs.run_of.Goals.{After-power}
 
-pub overflow-sub-d : goal.overflow-sub-d
-overflow-sub-d c = let l = depth_le c.args.d c.args.n c.requires.1 in omega arith
+pub overflow_sub-d : goal.overflow_sub-d
+overflow_sub-d c = let l = depth_le c.args.d c.args.n c.requires.1 in omega arith
 
 -- the width that was computed
 wide : (c : After-power) → c.power-s.result ≡ size c.args.d c.args.n
 wide c = c.power-s.ensures.0 ∙ ap (λ l. 2 ^ (c.args.d - l)) c.depth_of.ensures.value
 
-pub overflow-sub-a : goal.overflow-sub-a
-overflow-sub-a c =
+pub overflow_sub-a : goal.overflow_sub-a
+overflow_sub-a c =
     let s = span c.args.d c.args.n c.requires.1 in
     let m = ap (λ x. c.args.n * x) (wide c) in
     omega arith

@@ -5,8 +5,8 @@ use Rattle.bitmap.specs.Map.{map_meaning, Sets}
 use Rattle.bitmap.proofs.Moves.{took, took_tidy}
 use Rattle.bitmap.proofs.BitmapSpace.take.Goals as goal
 
-pub invariant-of-self : goal.invariant-of-self
-invariant-of-self c =
+pub invariant_of-self : goal.invariant_of-self
+invariant_of-self c =
     let s = c.args.self.now in
     let d = s.depth in
     let n = c.args.n in
@@ -14,7 +14,11 @@ invariant-of-self c =
     let vs = c.mark.new.words in
     let q : c.replace-words.result.now ≡ ws = ap (λ r. r.now) c.replace-words.ensures.value in
     let e = sym c.if-not-open.ensures in
-    (s.shallow, (λ live. omega (arith, s.sized live, c.mark.auto.words, ap length q), (λ live. took_tidy d ws vs n (s.tidy live) e (subst (λ x. Sets d n x vs) q c.mark.ensures.bits), tt)))
+    record {
+      shallow = s.shallow;
+      sized = λ live. omega (arith, s.sized live, c.mark.auto.words, ap length q);
+      tidy = λ live. took_tidy d ws vs n (s.tidy live) e (subst (λ x. Sets d n x vs) q c.mark.ensures.bits);
+    }
 
 pub returns : goal.returns
 returns c =
@@ -30,6 +34,6 @@ returns c =
       value = c.if-not-open.ensures;
       after = took d ws vs n (s.tidy live) e (subst (λ x. Sets d n x vs) q c.mark.ensures.bits);
       refused = λ no_way. absurd (true≢false no_way);
-      named = ap (λ r. r.name) c.replace-words.ensures.value;
+      named = ap (λ r. r.ghost_name) c.replace-words.ensures.value;
       beyond = λ k le. c.mark.ensures.beyond k le ∙ ap (λ x. get_or x k 0) q;
     }
