@@ -43,7 +43,7 @@ at_surplus column (Err f) = Err (moved 3 f)
 
 -- the answer r to a line, and memory before and after it
 pub data Answered (line old new : List ℕ) (r : Result ℕ Fault) : Type 0 where
-  no-head : NoHead line → new ≡ old → r ≡ Err (malformed (cond (alone_digit line) 2 1)) → Answered line old new r
-  one-text : (v : Version) (text : List ℕ) (s : Result ℕ Fault) → line ≡ digit v ∷ (32 ∷ text) → Without 32 text → Rewrites v text old new s → r ≡ at_text s → Answered line old new r
+  no_head : NoHead line → new ≡ old → r ≡ Err (malformed (cond (alone_digit line) 2 1)) → Answered line old new r
+  one_text : (v : Version) (text : List ℕ) (s : Result ℕ Fault) → line ≡ digit v ∷ (32 ∷ text) → Without 32 text → Rewrites v text old new s → r ≡ at_text s → Answered line old new r
   surplus : (v : Version) (text more blank other : List ℕ) (s : Result ℕ Fault) → line ≡ digit v ∷ (32 ∷ (text ++ (32 ∷ more))) → Without 32 text → new ≡ old
       → length blank ≡ 43 → Rewrites v text blank other s → r ≡ at_surplus (length text + 4) s → Answered line old new r

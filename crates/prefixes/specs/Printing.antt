@@ -1,6 +1,5 @@
 -- What the program prints for its whole input: a line for each line.
-use Rattle.std.specs.Prelude.{◌≡◌, ℕ, ◌+◌, ◌<◌, List, [], ◌∷◌, ◌++◌, length, take, replicate, Ok, Err, codes, decimal, Result}
-use Rattle.std.proofs.Math.Utf8.{encode}
+use Rattle.std.specs.Prelude.{◌≡◌, ℕ, ◌+◌, ◌<◌, List, [], ◌∷◌, ◌++◌, length, take, replicate, Ok, Err, codes, decimal, encode_utf8, Result}
 use Rattle.fault.specs.Causes as causes
 use Rattle.fault.specs.declared.Fault.{Fault}
 use Rattle.prefixes.specs.Cuts.{Without}
@@ -13,7 +12,7 @@ printed line memory (Err f) =
     codes "! "
     ++ (decimal line
     ++ (codes " "
-    ++ (encode (causes.letter (causes.layer f.cause))
+    ++ (encode_utf8 (causes.letter (causes.layer f.cause))
     ++ (codes " "
     ++ (decimal (causes.number f.cause)
     ++ (codes " "

@@ -1,5 +1,7 @@
 // Reads texts of prefixes and addresses, one a line behind the digit of its family, and prints each
 // in canonical form, or its fault: line, layer, number and column.
+#![tactic(auto)]
+
 ghost use Rattle.std.specs.Prelude.{◌≡◌, ℕ, List, [], ◌∷◌, ◌++◌, IfOk, Err, string_bytes, OnOk};
 ghost use Rattle.prefixes.specs.Printing.{Line, Lines, printed};
 

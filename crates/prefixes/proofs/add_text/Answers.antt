@@ -8,6 +8,6 @@ chained was x y z a b c e f g = g ∙ ap (λ l. l ++ c) (f ∙ ap (λ l. l ++ b)
 pub returns : goal.returns
 returns c =
     chained _ _ _ _ (43 ∷ (32 ∷ [])) c.args.text.now (10 ∷ [])
-    c.in-ok-extend-from-slice.ensures.items
-    c.in-ok-extend-from-slice-2.ensures.items
-    c.in-ok-push.ensures.items
+    c.in_ok-extend_from_slice.ensures.items
+    c.in_ok-extend_from_slice-2.ensures.items
+    c.in_ok-push.ensures.items

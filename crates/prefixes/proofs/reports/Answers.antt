@@ -1,5 +1,5 @@
 -- Line after line, until nothing of the input is left.
-use Rattle.std.proofs.Common.{◌≡◌, ◌+◌, ◌-◌, ◌≤◌, [], ◌++◌, drop, vec_items, sym, refl, ap, ◌∙◌, subst, append_assoc, arith}
+use Rattle.std.proofs.Common.{◌≡◌, ◌+◌, ◌≤◌, [], ◌++◌, drop, vec_items, sym, refl, ap, ◌∙◌, subst, append_assoc, arith}
 use Rattle.std.proofs.lemmas.List.{append-nil, drop_all}
 use Rattle.prefixes.specs.Printing.{Lines, none}
 use Rattle.prefixes.proofs.Feeds.{line_more}
@@ -12,11 +12,11 @@ pub loop-at-preserved : goal.loop-at-preserved
 loop-at-preserved c =
     let input = c.args.input.now in
     let at = c.loop-at.at in
-    let end = c.part-end-end.result in
-    let k = c.part-end-end.ensures in
+    let end = c.part_end-end.result in
+    let k = c.part_end-end.ensures in
     let low : at ≤ end = k.within.1 (omega arith) in
-    let r = c.in-ok-report.ensures in
-    let next : c.saturating-add-number.result ≡ c.loop-at.number + 1 = omega (arith, c.saturating-add-number.ensures, c.loop-at.invariant.0, c.loop-at-test.true) in (
+    let r = c.in_ok-report.ensures in
+    let next : c.saturating_add-number.result ≡ c.loop-at.number + 1 = omega (arith, c.saturating_add-number.ensures, c.loop-at.invariant.0, c.loop-at-test.true) in (
       omega (arith, next, c.loop-at.invariant.0, low),
       λ others l.
           let rest = subst (λ n. Lines n (drop (end + 1) input) others) next l in
