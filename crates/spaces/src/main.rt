@@ -1,4 +1,6 @@
 // Makes the same calls on a buddy tree and on a bitmap, and prints each answer and the memory of both.
+#![tactic(auto)]
+
 mod call;
 mod read;
 

@@ -14,16 +14,16 @@ returns-then-letter-eq115 c =
     (λ x s. subst (λ t. Spells t x) (sym e) s)
     (λ f h. (h.0, λ x s. h.1 x (subst (λ t. Spells t x) e s)))
 
-pub returns-in-err-number : goal.returns-in-err-number
-returns-in-err-number c =
-    let p = err_from_is_err_and c.from-residual.result c.from-residual.ensures.1 in
+pub returns-in_err-number : goal.returns-in_err-number
+returns-in_err-number c =
+    let p = err_from_is_err_and c.from_residual.result c.from_residual.ensures.1 in
     let text = c.args.text.now in
     let some : 0 < length text = omega (arith, ltb-false) in
     rw (p.1, p.2) (
-      c.in-err-number.ensures.0,
+      c.in_err-number.ensures.0,
       λ x s.
           let t = one_number (get_or text 0 0) (take (length text - 1) (drop 1 text)) c.if-letter-eq115.false x (subst (λ t. Spells t x) (first_rest text some) s) in
-          c.in-err-number.ensures.1 t.0 t.1 t.2,
+          c.in_err-number.ensures.1 t.0 t.1 t.2,
     )
 
 -- the text, as `single` was given it
@@ -34,12 +34,12 @@ pub returns-in-Some : goal.returns-in-Some
 returns-in-Some c =
     let text = c.args.text.now in
     let some : 0 < length text = omega (arith, ltb-false) in
-    let n = c.in-ok-number.ensures in
-    subst (λ t. Spells t c.in-Some.call) (sym (spelt text c.in-ok-number.field-0 some n.1)) (c.in-Some.ensures n.0)
+    let n = c.in_ok-number.ensures in
+    subst (λ t. Spells t c.in-Some.call) (sym (spelt text c.in_ok-number.field-0 some n.1)) (c.in-Some.ensures n.0)
 
 pub returns-in-None : goal.returns-in-None
 returns-in-None c =
     let text = c.args.text.now in
     let some : 0 < length text = omega (arith, ltb-false) in
-    let n = c.in-ok-number.ensures in
-    (c.alone-in-None.ensures, λ x s. c.in-None.ensures x (subst (λ t. Spells t x) (spelt text c.in-ok-number.field-0 some n.1) s))
+    let n = c.in_ok-number.ensures in
+    (c.alone-in-None.ensures, λ x s. c.in-None.ensures x (subst (λ t. Spells t x) (spelt text c.in_ok-number.field-0 some n.1) s))
