@@ -1,5 +1,7 @@
 // The worked examples: one statement that joins them, over the definitions that contracts cite, and
 // the places in it as the code finds them.
+#![tactic(auto)]
+
 ghost use Rattle.std.specs.Prelude.{◌≡◌};
 ghost use Rattle.worked.specs.Worked.{Worked};
 
