@@ -1,9 +1,10 @@
 -- The depth of a place, by its binary digits and by halving.
-use Rattle.std.proofs.Common.{◌≡◌, ℕ, zero, suc, ◌+◌, ◌/◌, ◌^◌, ◌<◌, ◌≤◌, true, ltb, leb, sym, refl, ap, ◌∙◌, ⊎_elim, arith, pow_pos, pow_mono, shr-shr}
+use Rattle.std.proofs.Common.{◌≡◌, ℕ, zero, suc, ◌+◌, ◌*◌, ◌/◌, ◌^◌, ◌<◌, ◌≤◌, true, ltb, leb, sym, refl, ap, ⊎_elim, arith, pow_pos, pow_mono, shr-shr}
 use native.Mathlib.Nat.{two-pow-succ}
 use Rattle.std.proofs.lemmas.Nat.{shr_le, le-div}
-use Rattle.std.proofs.lemmas.Bool.{cases_lt, and_parts, and_from, ltb-true, leb-true, lt-ltb, le-ltb}
+use Rattle.std.proofs.lemmas.Bool.{cases_eq, cases_lt, and_parts, and_from, ltb-true, leb-true, lt-ltb, le-ltb, le-leb}
 use Rattle.space.specs.Places.{is_place, at_depth, depth_by, depth_of}
+use Rattle.space.proofs.Truth.{same_test}
 
 pub pow_more : (k : ℕ) → 2 ^ (k + 1) ≡ 2 ^ k + 2 ^ k
 pow_more k = let e : k + 1 ≡ suc k = omega arith in rw e (two-pow-succ k)
@@ -46,50 +47,6 @@ unfolding depth_by
 depth_top zero h = refl
 depth_top (suc n) h = let t = le-ltb 1 (suc n) h in rw t refl
 
-depth_at_by : (j d n : ℕ) → n ≤ j → 2 ^ d ≤ n → n < 2 ^ (d + 1) → depth_of n ≡ d
-depth_at_by zero d n le a b = absurd (omega (arith, pow_pos d))
-depth_at_by (suc j) zero n le a b = depth_top n (omega arith)
-depth_at_by (suc j) (suc d) n le a b =
-    let p = two-pow-succ d in
-    let q = pow_more (suc d) in
-    let r = pow_more d in
-    let s = pow_pos d in
-    depth_half n (omega arith) ∙ ap (λ x. x + 1) (depth_at_by j d (n / 2) (omega arith) (omega arith) (omega arith)) ∙ (omega arith)
-
-pub depth_is : (d n : ℕ) → 2 ^ d ≤ n → n < 2 ^ (d + 1) → depth_of n ≡ d
-depth_is d n a b = depth_at_by n d n (omega arith) a b
-
-pub depth_at : (d n : ℕ) → at_depth d n ≡ true → depth_of n ≡ d
-depth_at d n e =
-    let t = and_parts (leb (2 ^ d) n) _ e in
-    depth_is d n (leb-true (2 ^ d) n t.0) (ltb-true n (2 ^ (d + 1)) t.1)
-
-depth_le_by : (j d n : ℕ) → n ≤ j → n < 2 ^ (d + 1) → depth_of n ≤ d
-depth_le_by zero d n le b = let e = depth_top n (omega arith) in omega arith
-depth_le_by (suc j) zero n le b = let e = depth_top n (omega arith) in omega arith
-depth_le_by (suc j) (suc d) n le b =
-    ⊎_elim
-    (λ lt. let q = pow_more (suc d) in let r = pow_more d in let p = two-pow-succ d in
-    let ih = depth_le_by j d (n / 2) (omega arith) (omega arith) in
-    omega (arith, depth_half n lt))
-    (λ ge. omega (arith, depth_top n ge))
-    (cases_lt 1 n)
-
-pub depth_le : (d n : ℕ) → is_place d n ≡ true → depth_of n ≤ d
-depth_le d n e = depth_le_by n d n (omega arith) (place_below d n e)
-
--- halving k times takes k off the depth, as long as something is left
-pub depth_halved : (k n : ℕ) → 0 < n / 2 ^ k → depth_of n ≡ depth_of (n / 2 ^ k) + k
-depth_halved zero n h = let d : n / 2 ^ 0 ≡ n = omega arith in rw d (omega arith)
-depth_halved (suc k) n h =
-    let e = half_more n k in
-    let g : 0 < n / 2 / 2 ^ k = omega arith in
-    let le = shr_le (n / 2) k in
-    let ih = depth_halved k (n / 2) g in
-    let s = depth_half n (omega arith) in
-    let q = ap depth_of e in
-    omega arith
-
 -- the places of a depth, by that depth
 bounds_by : (j n : ℕ) → n ≤ j → 0 < n → (2 ^ depth_of n ≤ n) × (n < 2 ^ (depth_of n + 1))
 bounds_by zero n le pos = absurd (omega arith)
@@ -114,9 +71,59 @@ bounds_by (suc j) n le pos =
 pub depth_bounds : (n : ℕ) → 0 < n → (2 ^ depth_of n ≤ n) × (n < 2 ^ (depth_of n + 1))
 depth_bounds n pos = bounds_by n n (omega arith) pos
 
+pow_below : (a b : ℕ) → 2 ^ a < 2 ^ b → a < b
+pow_below a b lt = ⊎_elim (λ l. l) (λ le. absurd (let m : 2 ^ b ≤ 2 ^ a = pow_mono le in omega arith)) (cases_lt a b)
+
+pub depth_is : (d n : ℕ) → 2 ^ d ≤ n → n < 2 ^ (d + 1) → depth_of n ≡ d
+depth_is d n a b =
+    let p = pow_pos d in
+    let t = depth_bounds n (omega arith) in
+    omega (arith, pow_below d (depth_of n + 1) (omega (arith, t.1)), pow_below (depth_of n) (d + 1) (omega (arith, t.0)))
+
+pub depth_log : (d n : ℕ) → 2 ^ d ≤ n → n < 2 * 2 ^ d → depth_of n ≡ d
+depth_log d n a b = depth_is d n a (let p = pow_more d in omega arith)
+
+pub depth_at : (d n : ℕ) → at_depth d n ≡ true → depth_of n ≡ d
+depth_at d n e =
+    let t = and_parts (leb (2 ^ d) n) _ e in
+    depth_is d n (leb-true (2 ^ d) n t.0) (ltb-true n (2 ^ (d + 1)) t.1)
+
+pub depth_le : (d n : ℕ) → is_place d n ≡ true → depth_of n ≤ d
+depth_le d n e = omega (arith, pow_below (depth_of n) (d + 1) (omega (arith, (depth_bounds n (place_pos d n e)).0, place_below d n e)))
+
+-- halving k times takes k off the depth, as long as something is left
+pub depth_halved : (k n : ℕ) → 0 < n / 2 ^ k → depth_of n ≡ depth_of (n / 2 ^ k) + k
+depth_halved zero n h = let d : n / 2 ^ 0 ≡ n = omega arith in rw d (omega arith)
+depth_halved (suc k) n h =
+    let e = half_more n k in
+    let g : 0 < n / 2 / 2 ^ k = omega arith in
+    let le = shr_le (n / 2) k in
+    let ih = depth_halved k (n / 2) g in
+    let s = depth_half n (omega arith) in
+    let q = ap depth_of e in
+    omega arith
+
 -- as many halvings leave something
 pub halved_pos : (n k : ℕ) → 0 < n → k ≤ depth_of n → 0 < n / 2 ^ k
 halved_pos n k pos le =
     let m : 2 ^ k ≤ 2 ^ depth_of n = pow_mono le in
     let b = depth_bounds n pos in
     le-div 1 n (2 ^ k) (pow_pos k) (omega (arith, b.0))
+
+-- and one more leaves nothing
+pub halved_none : (n k : ℕ) → depth_of n < k → n / 2 ^ k ≡ 0
+halved_none n k lt =
+    ⊎_elim (λ z. z) (λ nz. absurd (omega (arith, depth_halved k n (omega arith)))) (cases_eq (n / 2 ^ k) 0)
+
+-- the depth says whether it is a place
+pub place_within : (d n : ℕ) → 0 < n → depth_of n ≤ d → n < 2 ^ (d + 1)
+place_within d n pos le =
+    let more : depth_of n + 1 ≤ d + 1 = omega arith in
+    let m : 2 ^ (depth_of n + 1) ≤ 2 ^ (d + 1) = pow_mono more in
+    omega (arith, (depth_bounds n pos).1)
+
+pub place_by_depth : (d n : ℕ) → 0 < n → leb (depth_of n) d ≡ is_place d n
+place_by_depth d n pos =
+    same_test (leb (depth_of n) d) (is_place d n)
+    (λ e. place_of d n pos (place_within d n pos (leb-true (depth_of n) d e)))
+    (λ e. le-leb (depth_of n) d (depth_le d n e))

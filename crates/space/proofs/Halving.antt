@@ -1,10 +1,10 @@
 -- `lies` is what halving gives: n lies in m where n / 2 ^ k is m for some k.
-use Rattle.std.proofs.Common.{◌≡◌, ℕ, zero, suc, ◌+◌, ◌-◌, ◌*◌, ◌/◌, ◌^◌, ◌<◌, ◌≤◌, true, false, is_some, Some, None, Option, sym, ap, ◌∙◌, ⊎_elim, add-mul, div-mul-le_self, arith, pow_pos, MatchOption}
+use Rattle.std.proofs.Common.{◌≡◌, ℕ, zero, suc, ◌+◌, ◌-◌, ◌*◌, ◌/◌, ◌^◌, ◌<◌, ◌≤◌, true, sym, ap, ◌∙◌, ⊎_elim, add-mul, div-mul-le_self, arith, pow_pos}
 use Rattle.std.proofs.lemmas.Nat.{le-div, div_below, mul-le}
-use Rattle.std.proofs.lemmas.Bool.{cases_eq, cases_lt}
+use Rattle.std.proofs.lemmas.Bool.{cases_lt}
 use Rattle.space.specs.Places.{lies, depth_of}
 use Rattle.space.proofs.Depths.{half_more, depth_halved}
-use Rattle.space.proofs.Lies.{lies_self, lies_half, lies_le, lies_pos}
+use Rattle.space.proofs.Lies.{lies_each, lies_self, lies_half, lies_le, lies_pos}
 
 pub lies_halved : (k n m : ℕ) → 0 < m → n / 2 ^ k ≡ m → lies n m ≡ true
 lies_halved zero n m pos e = let d : n / 2 ^ 0 ≡ n = omega arith in rw (sym d ∙ e) (lies_self m pos)
@@ -13,19 +13,9 @@ lies_halved (suc k) n m pos e =
     let le = lies_le (n / 2) m up in
     lies_half n m (omega arith) (λ q. omega arith) ∙ up
 
-halved_by : (j n m : ℕ) → n ≤ j → 0 < m → lies n m ≡ true → (k : ℕ) × (n / 2 ^ k ≡ m)
-halved_by zero n m le pos l = absurd (omega (arith, lies_le n m l))
-halved_by (suc j) n m le pos l =
-    let up = lies_le n m l in
-    ⊎_elim
-    (λ e. (0, (let d : n / 2 ^ 0 ≡ n = omega arith in d ∙ e)))
-    (λ ne.
-    let t = halved_by j (n / 2) m (omega arith) pos (sym (lies_half n m (omega arith) ne) ∙ l) in
-    (suc t.0, half_more n t.0 ∙ t.1))
-    (cases_eq n m)
-
 pub halved_lies : (n m : ℕ) → 0 < m → lies n m ≡ true → (k : ℕ) × (n / 2 ^ k ≡ m)
-halved_lies n m pos l = halved_by n n m (omega arith) pos l
+halved_lies n m pos l =
+    lies_each (λ x. (k : ℕ) × (x / 2 ^ k ≡ m)) m (0, let d : m / 2 ^ 0 ≡ m = omega arith in d) (λ x lt half t. (suc t.0, half_more x t.0 ∙ t.1)) n l
 
 -- how many halvings it takes: the difference of the depths
 pub lies_by_depths : (n m : ℕ) → lies n m ≡ true → (0 < m) × (depth_of m ≤ depth_of n) × (n / 2 ^ (depth_of n - depth_of m) ≡ m)
@@ -37,26 +27,11 @@ lies_by_depths n m l =
     let k : depth_of n - depth_of m ≡ t.0 = omega arith in
     (pos, omega arith, ap (λ x. n / 2 ^ x) k ∙ t.1)
 
-pub some_lies : (o : Option ℕ) (n m : ℕ) → MatchOption o (lies n m ≡ false) (λ k. (0 < m) × (n / 2 ^ k ≡ m)) → is_some o ≡ lies n m
-some_lies (Some k) n m h = sym (lies_halved k n m h.0 h.1)
-some_lies None n m h = sym h
-
 -- of two places over one place, one lies in the other
-nested_by : (j a b c : ℕ) → a ≤ j → b ≤ c → lies a b ≡ true → lies a c ≡ true → 0 < b → lies c b ≡ true
-nested_by zero a b c le bc x y pos = absurd (omega (arith, lies_le a b x))
-nested_by (suc j) a b c le bc x y pos =
-    let p = lies_le a b x in
-    let q = lies_le a c y in
-    ⊎_elim
-    (λ e. rw (← e) x)
-    (λ ne. ⊎_elim
-    (λ e. let s : b ≡ c = omega arith in rw s (lies_self c (omega arith)))
-    (λ nb. nested_by j (a / 2) b c (omega arith) bc (sym (lies_half a b (omega arith) nb) ∙ x) (sym (lies_half a c (omega arith) ne) ∙ y) pos)
-    (cases_eq a b))
-    (cases_eq a c)
-
 pub lies_nested : (a b c : ℕ) → b ≤ c → 0 < b → lies a b ≡ true → lies a c ≡ true → lies c b ≡ true
-lies_nested a b c bc pos x y = nested_by a a b c (omega arith) bc x y pos
+lies_nested a b c bc pos x y =
+    lies_each (λ k. lies k b ≡ true → lies c b ≡ true) c (λ l. l)
+    (λ k lt half ih l. let up = lies_le (k / 2) c half in ih (sym (lies_half k b (omega arith) (λ q. omega arith)) ∙ l)) a y x
 
 -- n halved k times is h: so are the numbers from n on, up to the last that h has of n's depth
 module _ (k n h : ℕ) (pos : 0 < h) (e : n / 2 ^ k ≡ h) where

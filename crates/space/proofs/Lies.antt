@@ -1,5 +1,5 @@
 -- What `lies` is, step by step.
-use Rattle.std.proofs.Common.{◌≡◌, ℕ, zero, suc, ◌+◌, ◌*◌, ◌/◌, ◌<◌, ◌≤◌, true, false, sym, refl, ap, ◌∙◌, ⊎_elim, arith}
+use Rattle.std.proofs.Common.{◌≡◌, ℕ, zero, suc, ◌+◌, ◌*◌, ◌/◌, ◌<◌, ◌≤◌, true, false, sym, refl, ap, ◌∙◌, subst, ⊎_elim, arith}
 use Rattle.std.proofs.lemmas.Bool.{cases_eq, cases_lt, eq-eqb, ne_eqb, lt-ltb, both_ways}
 use Rattle.space.specs.Places.{lies_by, lies}
 
@@ -64,32 +64,6 @@ lies_by_none (suc k) n =
 pub lies_none : (n : ℕ) → lies n 0 ≡ false
 lies_none n = lies_by_none n n
 
--- what lies in m lies in the place above m
-lies_up_by : (j k m : ℕ) → k ≤ j → 1 < m → lies k m ≡ true → lies k (m / 2) ≡ true
-lies_up_by zero k m le h e = absurd (both_ways (lies k m) (let z : k < m = omega arith in lies_above k m z) e)
-lies_up_by (suc j) k m le h e =
-    ⊎_elim
-    (λ eq. rw eq (lies_half m (m / 2) (omega arith) (λ x. omega arith) ∙ lies_self (m / 2) (omega arith)))
-    (λ ne. ⊎_elim
-    (λ z. absurd (both_ways (lies k m) (lies_above k m (omega arith)) e))
-    (λ nz.
-    let up : lies (k / 2) (m / 2) ≡ true = lies_up_by j (k / 2) m (omega arith) h (sym (lies_half k m (omega arith) ne) ∙ e) in
-    ⊎_elim
-    (λ own. rw own (lies_self (m / 2) (omega arith)))
-    (λ other. lies_half k (m / 2) (omega arith) other ∙ up)
-    (cases_eq k (m / 2)))
-    (cases_eq k 0))
-    (cases_eq k m)
-
-pub lies_up : (k m : ℕ) → 1 < m → lies k m ≡ true → lies k (m / 2) ≡ true
-lies_up k m h e = lies_up_by k k m (omega arith) h e
-
-pub lies_left : (k n : ℕ) → 0 < n → lies k (2 * n) ≡ true → lies k n ≡ true
-lies_left k n h e = let d : 2 * n / 2 ≡ n = omega arith in ap (λ x. lies k x) (sym d) ∙ lies_up k (2 * n) (omega arith) e
-
-pub lies_right : (k n : ℕ) → 0 < n → lies k (2 * n + 1) ≡ true → lies k n ≡ true
-lies_right k n h e = let d : (2 * n + 1) / 2 ≡ n = omega arith in ap (λ x. lies k x) (sym d) ∙ lies_up k (2 * n + 1) (omega arith) e
-
 -- lies is an order: n lies in m only if m ≤ n
 pub lies_le : (n m : ℕ) → lies n m ≡ true → m ≤ n
 lies_le n m e = ⊎_elim (λ lt. absurd (both_ways (lies n m) (lies_above n m lt) e)) (λ le. le) (cases_lt n m)
@@ -100,3 +74,32 @@ lies_pos n m l =
     (λ z. let f : lies n 0 ≡ true = ap (λ x. lies n x) (sym z) ∙ l in absurd (both_ways (lies n 0) (lies_none n) f))
     (λ nz. omega arith)
     (cases_eq m 0)
+
+-- what holds of n, and of each place whose half it holds of, holds of all that lies in n
+module _ (P : ℕ → Type 0) (n : ℕ) (here : P n) (step : (k : ℕ) → n < k → lies (k / 2) n ≡ true → P (k / 2) → P k) where
+  lies_each_by : (j k : ℕ) → k ≤ j → lies k n ≡ true → P k
+  lies_each_by zero k le l = absurd (omega (arith, lies_le k n l, lies_pos k n l))
+  lies_each_by (suc j) k le l =
+      let up = lies_le k n l in
+      let pos = lies_pos k n l in
+      ⊎_elim
+      (λ e. subst P (sym e) here)
+      (λ ne. let half : lies (k / 2) n ≡ true = sym (lies_half k n (omega arith) ne) ∙ l in step k (omega arith) half (lies_each_by j (k / 2) (omega arith) half))
+      (cases_eq k n)
+
+  pub lies_each : (k : ℕ) → lies k n ≡ true → P k
+  lies_each k l = lies_each_by k k (omega arith) l
+
+-- what lies in m lies in the place above m
+pub lies_up : (k m : ℕ) → 1 < m → lies k m ≡ true → lies k (m / 2) ≡ true
+lies_up k m h e =
+    lies_each (λ x. lies x (m / 2) ≡ true) m
+    (lies_half m (m / 2) (omega arith) (λ q. omega arith) ∙ lies_self (m / 2) (omega arith))
+    (λ x lt half ih. lies_half x (m / 2) (omega arith) (λ q. omega arith) ∙ ih)
+    k e
+
+pub lies_left : (k n : ℕ) → 0 < n → lies k (2 * n) ≡ true → lies k n ≡ true
+lies_left k n h e = let d : 2 * n / 2 ≡ n = omega arith in ap (λ x. lies k x) (sym d) ∙ lies_up k (2 * n) (omega arith) e
+
+pub lies_right : (k n : ℕ) → 0 < n → lies k (2 * n + 1) ≡ true → lies k n ≡ true
+lies_right k n h e = let d : (2 * n + 1) / 2 ≡ n = omega arith in ap (λ x. lies k x) (sym d) ∙ lies_up k (2 * n + 1) (omega arith) e

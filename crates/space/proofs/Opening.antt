@@ -1,7 +1,8 @@
 -- What is open, what answers a search, and what a set is after a change.
-use Rattle.std.proofs.Common.{◌≡◌, ℕ, ◌+◌, ◌^◌, ◌<◌, ◌≤◌, Bool, true, false, not, ◌&&◌, leb, sym, ap, ◌∙◌, ⊎_elim, arith}
+use Rattle.std.proofs.Common.{◌≡◌, ℕ, ◌+◌, ◌^◌, ◌<◌, ◌≤◌, Bool, true, false, not, leb, sym, ap, ⊎_elim, arith}
 use mathlib.Core.Path.{fun_ext}
-use Rattle.std.proofs.lemmas.Bool.{cases_eq, and_parts, and_from, leb-true, le-leb, eq-eqb, ne_eqb, not-true, not_from_false, cond-true}
+use Rattle.std.proofs.lemmas.Bool.{cases_eq, and_parts, and_from, leb-true, le-leb, not-true, not_from_false, cond-true}
+use Rattle.std.proofs.lemmas.Bool.Decides.{nat_tests}
 use Rattle.space.specs.Places.{lies, is_place, at_depth, depth_of}
 use Rattle.space.specs.Meaning.{Meaning, is_open, blocked, answers, removing, adding, having, after_take, after_give}
 use Rattle.space.proofs.Truth.{false_from}
@@ -54,11 +55,7 @@ module _ (m : Meaning) (w d f k : ℕ) where
 
 -- removing what is not there
 pub removing_none : (set : ℕ → Bool) (n : ℕ) → set n ≡ false → removing set n ≡ set
-removing_none set n e = fun_ext λ k.
-    ⊎_elim
-    (λ q. ap (λ t. not t && set k) (eq-eqb k n q) ∙ sym (ap set q ∙ e))
-    (λ ne. ap (λ t. not t && set k) (ne_eqb k n ne))
-    (cases_eq k n)
+removing_none set n e = fun_ext (λ k. ⊎_elim (λ q. grind (arith, nat_tests, ap set q)) (λ ne. grind (arith, nat_tests)) (cases_eq k n))
 
 -- the meaning after a take that is granted, and after a give that is refused
 module _ (m : Meaning) (n : ℕ) where

@@ -1,11 +1,11 @@
 -- The places of one depth that lie in a place are a range of numbers, so that a search goes through a range.
-use Rattle.std.proofs.Common.{◌≡◌, ℕ, zero, suc, ◌+◌, ◌-◌, ◌*◌, ◌/◌, ◌^◌, ◌<◌, ◌≤◌, true, false, Some, None, Option, sym, ap, ◌∙◌, subst, ap₂, ⊎_elim, add-mul, mul-add, arith, pow_mono, MatchOption}
+use Rattle.std.proofs.Common.{◌≡◌, ℕ, suc, ◌+◌, ◌-◌, ◌*◌, ◌/◌, ◌^◌, ◌<◌, ◌≤◌, true, false, Some, None, Option, sym, ap, ◌∙◌, ap₂, ⊎_elim, add-mul, mul-add, arith, pow_mono, MatchOption}
 use native.Mathlib.Nat.{two-pow-succ}
 use Rattle.std.proofs.lemmas.Nat.{div-mul-add, shr_split, shl-shr, mod_below, mul-le, pow-add, pow_pos}
 use Rattle.std.proofs.lemmas.Bool.{cases_eq, cases_lt, and_from, or_left, or_right, both_ways, le-leb, lt-ltb}
 use Rattle.space.specs.Places.{lies, overlap, is_place, at_depth, depth_of, size}
 use Rattle.space.specs.Meaning.{Meaning, Least, Free, blocked, answers}
-use Rattle.space.proofs.Lies.{lies_half, lies_le, lies_pos}
+use Rattle.space.proofs.Lies.{lies_each, lies_le, lies_pos}
 use Rattle.space.proofs.Halving.{lies_halved, lies_by_depths, lies_nested}
 use Rattle.space.proofs.Depths.{depth_at, depth_half, depth_bounds, place_of}
 use Rattle.space.proofs.Opening.{no_answer, answer_from, answer_parts, open_parts, open_from, open_below}
@@ -63,23 +63,19 @@ half_range d n lt lv =
     (λ odd. let z : n * 2 ^ h ≡ (q + q) * 2 ^ h + 1 * 2 ^ h = ap (λ x. x * 2 ^ h) (let y : n ≡ (q + q) + 1 = omega arith in y) ∙ add-mul (q + q) 1 (2 ^ h) in (omega arith, omega arith))
     (cases_eq n (q + q))
 
-nests_by : (j d n k : ℕ) → n ≤ j → 0 < k → depth_of n ≤ d → lies n k ≡ true → (k * size d k ≤ n * size d n) × (n * size d n + size d n ≤ k * size d k + size d k)
-nests_by zero d n k le pos lv l = absurd (omega (arith, lies_le n k l))
-nests_by (suc j) d n k le pos lv l =
-    let up = lies_le n k l in
-    ⊎_elim
-    (λ e. subst (λ x. (x * size d x ≤ n * size d n) × (n * size d n + size d n ≤ x * size d x + size d x)) e (omega arith, omega arith))
-    (λ ne.
-    let half : lies (n / 2) k ≡ true = sym (lies_half n k (omega arith) ne) ∙ l in
-    let big = lies_le (n / 2) k half in
-    let e = depth_half n (omega arith) in
-    let ih = nests_by j d (n / 2) k (omega arith) pos (omega arith) half in
-    let s = half_range d n (omega arith) lv in
-    (omega arith, omega arith))
-    (cases_eq n k)
-
 pub range_nests : (d n k : ℕ) → depth_of n ≤ d → lies n k ≡ true → (k * size d k ≤ n * size d n) × (n * size d n + size d n ≤ k * size d k + size d k)
-range_nests d n k lv l = nests_by n d n k (omega arith) (lies_pos n k l) lv l
+range_nests d n k lv l = lies_each In k (λ _. (omega arith, omega arith)) up n l lv
+  where
+    In : ℕ → Type 0
+    In x = depth_of x ≤ d → (k * size d k ≤ x * size d x) × (x * size d x + size d x ≤ k * size d k + size d k)
+
+    up : (x : ℕ) → k < x → lies (x / 2) k ≡ true → In (x / 2) → In x
+    up x lt half ih le =
+        let above = lies_le (x / 2) k half in
+        let pos = lies_pos (x / 2) k half in
+        let big = ih (let e = depth_half x (omega arith) in omega arith) in
+        let s = half_range d x (omega arith) le in
+        (omega (arith, big.0, s.0), omega (arith, big.1, s.1))
 
 -- a range says whose it is
 pub same_range : (d n k : ℕ) → n * size d n ≡ k * size d k → size d n ≡ size d k → n ≡ k

@@ -11,8 +11,6 @@ pub mod places;
 pub trait Space {
     ghost meaning: { Self → Meaning };
 
-    ghost sound: { (s : Self) → Sound (meaning s) };
-
     fn depth(&self) -> usize
         ensures { result ≡ (meaning self.now).depth };
 
@@ -43,4 +41,6 @@ pub trait Space {
         ensures value { result ≡ (meaning self.old).out n }
         ensures after { meaning self.new ≡ after_give (meaning self.old) n }
         ensures refused { result ≡ false → self.new ≡ self.old };
+
+    ghost sound: { (s : Self) → Sound (meaning s) };
 }
