@@ -1,81 +1,65 @@
 -- When a byte agrees with those below it, and what set and clear bytes say of the places below.
-use Rattle.std.proofs.Common.{◌≡◌, ℕ, zero, suc, ◌+◌, ◌*◌, ◌/◌, ◌^◌, ◌<◌, ◌≤◌, true, false, eqb, List, sym, refl, ◌∙◌, ⊎_elim, arith, pow_pos}
-use Rattle.std.proofs.lemmas.Bool.{cases_eq, cases_lt, ltb-true, eqb-true, eq-eqb, ne_eqb, lt-ltb, le-ltb}
+use Rattle.std.proofs.Common.{◌≡◌, ℕ, zero, suc, ◌+◌, ◌*◌, ◌^◌, ◌<◌, ◌≤◌, true, cond, eqb, List, ap, ⊎_elim, arith, pow_pos}
+use Rattle.std.proofs.lemmas.Bool.{cases_eq, cases_lt, ltb-true, lt-ltb, le-ltb}
+use Rattle.std.proofs.lemmas.Bool.Decides.{nat_tests}
 use Rattle.space.specs.Places.{lies}
-use Rattle.space.proofs.Lies.{lies_self, lies_half, lies_left, lies_right, lies_le}
+use Rattle.space.proofs.Lies.{lies_self, lies_left, lies_right}
 use Rattle.space.proofs.Depths.{pow_more, place_of}
-use Rattle.tree.specs.Tree.{byte, agrees, Tidy}
-use Rattle.tree.specs.Sound.{inner, zero_child}
+use Rattle.tree.specs.Tree.{byte, agrees, node, Tidy}
+use Rattle.tree.specs.Sound.{Out, inner, under}
 
 -- a byte that is neither 1 nor 0 is 2, over some byte that is set
-pub agrees_two : (a s : ℕ) → agrees true a s ≡ true → (a ≡ 1 → ⊥) → (a ≡ 0 → ⊥) → (a ≡ 2) × (0 < s)
+agrees_two : (a s : ℕ) → agrees true a s ≡ true → (a ≡ 1 → ⊥) → (a ≡ 0 → ⊥) → (a ≡ 2) × (0 < s)
 unfolding agrees
-agrees_two a s e h z =
-    ⊎_elim
-    (λ w. let f : eqb a 0 ≡ true = rw (ne_eqb a 1 h, eq-eqb s 0 w) at e in absurd (z (eqb-true a 0 f)))
-    (λ w. let f : eqb a 2 ≡ true = rw (ne_eqb a 1 h, ne_eqb s 0 w) at e in (eqb-true a 2 f, omega arith))
-    (cases_eq s 0)
+agrees_two a s e h z = grind (arith, nat_tests)
 
-pub one_agrees : (s : ℕ) → s ≡ 0 → agrees true 1 s ≡ true
+-- a node that is 1 or 0, with nothing below
+pub low_node : (d : ℕ) (b : List ℕ) (n : ℕ) → byte b n < 2 → (n < 2 ^ d → byte b (2 * n) + byte b (2 * n + 1) ≡ 0) → node d b n ≡ true
 unfolding agrees
-one_agrees s e = rw e refl
+low_node d b n low none = ⊎_elim
+    (λ lt. let z = none lt in grind (arith, nat_tests))
+    (λ le. rw (le-ltb n (2 ^ d) le) (lt-ltb (byte b n) 2 low))
+    (cases_lt n (2 ^ d))
 
-pub none_agrees : (s : ℕ) → s ≡ 0 → agrees true 0 s ≡ true
+-- a byte made from those below it
+pub above_agrees : (s v : ℕ) → v ≡ cond (eqb s 0) 0 2 → agrees true v s ≡ true
 unfolding agrees
-none_agrees s e = rw e refl
+above_agrees s v e = grind (arith, nat_tests)
 
-pub two_agrees : (s : ℕ) → 0 < s → agrees true 2 s ≡ true
-unfolding agrees
-two_agrees s h = rw (ne_eqb s 0 (λ z. omega arith)) refl
-
-agrees_leaf : (a s : ℕ) → agrees false a s ≡ true → a < 2
-unfolding agrees
-agrees_leaf a s e = ltb-true a 2 e
-
-pub leaf_agrees : (a s : ℕ) → a < 2 → agrees false a s ≡ true
-unfolding agrees
-leaf_agrees a s h = lt-ltb a 2 h
+pub above_no_one : (s v : ℕ) → v ≡ cond (eqb s 0) 0 2 → v ≡ 1 → ⊥
+above_no_one s v e one = grind (arith, nat_tests)
 
 module _ (d : ℕ) (b : List ℕ) (tidy : Tidy d b) where
-  pub bottom : (n : ℕ) → 2 ^ d ≤ n → n < 2 ^ (d + 1) → byte b n < 2
-  bottom n le lt =
-      let q = pow_pos d in
-      agrees_leaf (byte b n) (byte b (2 * n) + byte b (2 * n + 1)) (rw (le-ltb n (2 ^ d) le) at (tidy n (place_of d n (omega arith) lt)))
+  bottom : (n : ℕ) → 2 ^ d ≤ n → n < 2 ^ (d + 1) → byte b n < 2
+  unfolding agrees
+  bottom n le lt = let q = pow_pos d in ltb-true (byte b n) 2 (rw (le-ltb n (2 ^ d) le) at (tidy n (place_of d n (omega arith) lt)))
 
-  -- below a clear byte all bytes are clear
-  zero_under_by : (j k n : ℕ) → k ≤ j → 0 < n → byte b n ≡ 0 → lies k n ≡ true → k < 2 ^ (d + 1) → byte b k ≡ 0
-  zero_under_by zero k n le pos z l lt = absurd (omega (arith, lies_le k n l))
-  zero_under_by (suc j) k n le pos z l lt =
-      let up = lies_le k n l in
+  -- a byte that is neither 1 nor 0 is 2, and has a set one below it
+  pub two : (n : ℕ) → 0 < n → n < 2 ^ (d + 1) → (byte b n ≡ 1 → ⊥) → (byte b n ≡ 0 → ⊥) → (n < 2 ^ d) × (byte b n ≡ 2) × (0 < byte b (2 * n) + byte b (2 * n + 1))
+  two n pos low not-one nz =
       ⊎_elim
-      (λ e. rw e z)
-      (λ ne. zero_child d b tidy k (omega arith) lt (zero_under_by j (k / 2) n (omega arith) pos z (sym (lies_half k n (omega arith) ne) ∙ l) (omega arith)))
-      (cases_eq k n)
+      (λ lt. let t = agrees_two (byte b n) _ (inner d b tidy n pos lt) not-one nz in (lt, t.0, t.1))
+      (λ le. absurd (let x = bottom n le low in omega arith))
+      (cases_lt n (2 ^ d))
 
-  pub zero_under : (k n : ℕ) → 0 < n → byte b n ≡ 0 → lies k n ≡ true → k < 2 ^ (d + 1) → byte b k ≡ 0
-  zero_under k n pos z l lt = zero_under_by k k n (omega arith) pos z l lt
+  -- below a clear byte no place is out, and a set byte has a place out in it
+  pub zero_under : (n : ℕ) → 0 < n → byte b n ≡ 0 → (k : ℕ) → Out d b k → lies k n ≡ true → ⊥
+  zero_under n pos z k o l =
+      ⊎_elim (λ e. omega (arith, o.one, ap (byte b) e)) (λ ne. omega (arith, o.one, under d b tidy n pos (omega arith) k l ne o.low)) (cases_eq k n)
 
-  -- a set byte has a place out in it
-  set_has_by : (j w : ℕ) → 2 ^ (d + 1) ≤ w + j → 0 < w → w < 2 ^ (d + 1) → (byte b w ≡ 0 → ⊥) → (k : ℕ) × (k < 2 ^ (d + 1)) × (byte b k ≡ 1) × (lies k w ≡ true)
-  set_has_by zero w le pos lt nz = absurd (omega arith)
-  set_has_by (suc j) w le pos lt nz =
+  set_has_by : (j w : ℕ) → 2 ^ (d + 1) ≤ w + j → 0 < d → 0 < w → w < 2 ^ (d + 1) → (byte b w ≡ 0 → ⊥) → (k : ℕ) × Out d b k × (lies k w ≡ true)
+  set_has_by zero w le live pos lt nz = absurd (omega arith)
+  set_has_by (suc j) w le live pos lt nz =
       ⊎_elim
-      (λ one. (w, lt, one, lies_self w pos))
-      (λ other. ⊎_elim
-      (λ in_tree.
-      let s = agrees_two (byte b w) _ (inner d b tidy w pos in_tree) other nz in
+      (λ one. (w, record { live = live; pos = pos; low = lt; one = one }, lies_self w pos))
+      (λ other.
+      let s = two w pos lt other nz in
       let p = pow_more d in
       ⊎_elim
-      (λ z.
-      let t = set_has_by j (2 * w + 1) (omega arith) (omega arith) (omega arith) (λ y. omega arith) in
-      (t.0, t.1, t.2, lies_right t.0 w pos t.3))
-      (λ y.
-      let t = set_has_by j (2 * w) (omega arith) (omega arith) (omega arith) y in
-      (t.0, t.1, t.2, lies_left t.0 w pos t.3))
+      (λ z. let t = set_has_by j (2 * w + 1) (omega arith) live (omega arith) (omega (arith, s.0)) (λ y. omega (arith, s.2)) in (t.0, t.1, lies_right t.0 w pos t.2))
+      (λ y. let t = set_has_by j (2 * w) (omega arith) live (omega arith) (omega (arith, s.0)) y in (t.0, t.1, lies_left t.0 w pos t.2))
       (cases_eq (byte b (2 * w)) 0))
-      (λ leaf. let x = bottom w leaf lt in absurd (omega arith))
-      (cases_lt w (2 ^ d)))
       (cases_eq (byte b w) 1)
 
-  pub set_has : (w : ℕ) → 0 < w → w < 2 ^ (d + 1) → (byte b w ≡ 0 → ⊥) → (k : ℕ) × (k < 2 ^ (d + 1)) × (byte b k ≡ 1) × (lies k w ≡ true)
-  set_has w pos lt nz = set_has_by (2 ^ (d + 1)) w (omega arith) pos lt nz
+  pub set_has : (w : ℕ) → 0 < d → 0 < w → w < 2 ^ (d + 1) → (byte b w ≡ 0 → ⊥) → (k : ℕ) × Out d b k × (lies k w ≡ true)
+  set_has w live pos lt nz = set_has_by (2 ^ (d + 1)) w (omega arith) live pos lt nz

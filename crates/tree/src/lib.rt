@@ -1,14 +1,15 @@
 // A space kept as a binary tree of bytes in lent memory, one byte for each place.
 #![tactic(auto)]
 
-ghost use Rattle.std.specs.Prelude.{◌≡◌, ℕ, ◌+◌, ◌^◌, ◌<◌, ◌≤◌, true, false, not, ◌&&◌, ◌||◌, ◌++◌, length, take, drop, replicate, if◌then◌else◌, MatchOption, ◌==◌, ◌≢◌, nat_eq, nat_lt};
-ghost use Rattle.space.specs.Places.{lies, is_place};
-ghost use Rattle.space.specs.Meaning.{Free, blocked, is_open, after_take, after_give, fresh, shut};
+ghost use Rattle.std.specs.Prelude.{◌≡◌, ℕ, ◌+◌, ◌/◌, ◌^◌, ◌<◌, ◌≤◌, true, false, ◌&&◌, ◌++◌, length, take, drop, replicate, if◌then◌else◌, MatchOption, ◌≢◌, nat_eq, nat_lt};
+ghost use Rattle.space.specs.Places.{overlap, is_place, depth_of};
+ghost use Rattle.space.specs.Meaning.{Free, blocked, is_open, adding, removing, after_take, after_give, fresh, shut};
 ghost use Rattle.tree.specs.Tree.{byte, Tidy, tree_out, tree_meaning, room, drawn, Blocked};
 ghost use Rattle.tree.specs.Sound.{tree_sound};
 
 use space::Space;
-use space::places::depth_of;
+use space::places::{depth_of, is_place, places_at};
+use std::ops::Range;
 
 // Byte n is 1 when n is out, 2 when another place that lies in n is out, else 0; byte 0 is 0.
 // The ghost fields say so by each byte and the two below it, and a shut space has depth 0.
@@ -29,14 +30,14 @@ impl<'a> BuddyTree<'a> {
         ensures memory { result.bytes.now ≡ (if room depth (length bytes.old) then replicate (2 ^ (depth + 1)) 0 ++ drop (2 ^ (depth + 1)) bytes.old else bytes.old) }
         ensures named { result.bytes.ghost_name ≡ bytes.entry.ghost_name }
     {
-        if depth < 1 || depth > 12 {
+        if !(1..=12).contains(&depth) {
             return BuddyTree { depth: 0, bytes };
         }
         let n = 1usize << (depth + 1);
         if bytes.len() < n {
             return BuddyTree { depth: 0, bytes };
         }
-        wipe(bytes, n);
+        bytes[..n].fill(0);
         BuddyTree { depth, bytes }
     }
 
@@ -52,7 +53,68 @@ impl<'a> BuddyTree<'a> {
     fn has(&self, n: usize) -> bool
         ensures { result ≡ (nat_lt 0 self.now.depth && is_place self.now.depth n) }
     {
-        n > 0 && self.depth > 0 && n < 1usize << (self.depth + 1)
+        0 < self.depth && is_place(self.depth, n)
+    }
+
+    // Writes whether n is out, and sets each place above it by its two halves. No other place out may overlap n.
+    fn set_out(&mut self, n: usize, out: bool)
+        requires live { 0 < self.old.depth }
+        requires place { is_place self.old.depth n ≡ true }
+        requires apart { (k : ℕ) → tree_out self.old.depth self.old.bytes.now k ≡ true → overlap k n ≡ true → k ≡ n }
+        ensures depth { self.new.depth ≡ self.old.depth }
+        ensures outs { tree_out self.old.depth self.new.bytes.now ≡ (if out then adding (tree_out self.old.depth self.old.bytes.now) n else removing (tree_out self.old.depth self.old.bytes.now) n) }
+        ensures named { self.new.bytes.ghost_name ≡ self.old.bytes.ghost_name }
+        ensures beyond { (k : ℕ) → 2 ^ (self.old.depth + 1) ≤ k → byte self.new.bytes.now k ≡ byte self.old.bytes.now k }
+    {
+        // By the bytes alone, since they are not tidy before the walk up has come to its end.
+        let b = &mut *self.bytes;
+        b[n] = u8::from(out);
+        for k in 1..=depth_of(n) {
+            let a = n >> k;
+            b[a] = above(b[2 * a], b[2 * a + 1]);
+        }
+    }
+
+    // How often n is halved, once or more, until it is a place that is out; nothing where none above n is.
+    fn out_above(&self, n: usize) -> Option<usize>
+        requires live { 0 < self.now.depth }
+        requires place { is_place self.now.depth n ≡ true }
+        ensures { MatchOption result ((k : ℕ) → 0 < k → k ≤ depth_of n → byte self.now.bytes.now (n / 2 ^ k) ≢ 1) (λ k. (k < 64) × (k ≤ depth_of n) × (byte self.now.bytes.now (n / 2 ^ k) ≡ 1)) }
+    {
+        (1..=depth_of(n)).find(|k| self.bytes[n >> *k] == 1)
+    }
+
+    // Nothing if n overlaps no place out; else a place from n on up to which every one overlaps a place out.
+    // Where a place above n is out, that is the last of n's depth in it, so that a search leaves it in one step.
+    fn obstacle(&self, n: usize) -> Option<usize>
+        requires live { 0 < self.now.depth }
+        requires place { is_place self.now.depth n ≡ true }
+        ensures { MatchOption result (blocked (tree_meaning self.now.depth self.now.bytes.now) n ≡ false) (Blocked (tree_meaning self.now.depth self.now.bytes.now) n) }
+    {
+        if self.bytes[n] != 0 {
+            return Some(n);
+        }
+        let k = self.out_above(n)?;
+        let a = n >> k;
+        Some(((a + 1) << k) - 1)
+    }
+
+    // The first of the places that overlaps no place out. Each turn leaves a place out behind, so the cost goes
+    // with the number of those and not with that of the places.
+    fn first_free(&self, places: Range<usize>) -> Option<usize>
+        requires live { 0 < self.now.depth }
+        requires above { 0 < places.start }
+        requires below { places.end ≤ 2 ^ (self.now.depth + 1) }
+        ensures { MatchOption result ((j : ℕ) → places.start ≤ j → j < places.end → blocked (tree_meaning self.now.depth self.now.bytes.now) j ≡ true) (Free (tree_meaning self.now.depth self.now.bytes.now) places.start places.end) }
+    {
+        let mut k = places.start;
+        while k < places.end {
+            let Some(last) = self.obstacle(k) else {
+                return Some(k);
+            };
+            k = last + 1;
+        }
+        None
     }
 }
 
@@ -66,7 +128,7 @@ impl<'a> Space for BuddyTree<'a> {
     }
 
     fn open(&self, n: usize) -> bool {
-        self.has(n) && obstacle(self.bytes, self.depth, n).is_none()
+        self.has(n) && self.obstacle(n).is_none()
     }
 
     fn out(&self, n: usize) -> bool {
@@ -77,17 +139,12 @@ impl<'a> Space for BuddyTree<'a> {
         self.has(w) && self.bytes[w] != 0
     }
 
-    // The places of depth d in w are w * s and the s - 1 after it.
     fn seek(&self, w: usize, d: usize, f: usize) -> Option<usize> {
-        if !self.has(w) {
+        if !self.has(w) || d > self.depth {
             return None;
         }
-        let high = depth_of(w);
-        if d < high || d > self.depth {
-            return None;
-        }
-        let s = 1usize << (d - high);
-        first_free(self.bytes, self.depth, f.max(w * s), w * s + s)
+        let places = places_at(w, d)?;
+        self.first_free(f.max(places.start)..places.end)
     }
 
     fn take(&mut self, n: usize) -> bool
@@ -97,15 +154,11 @@ impl<'a> Space for BuddyTree<'a> {
         ensures named { self.new.bytes.ghost_name ≡ self.old.bytes.ghost_name }
         ensures beyond { (k : ℕ) → 2 ^ (self.old.depth + 1) ≤ k → byte self.new.bytes.now k ≡ byte self.old.bytes.now k }
     {
-        if !<BuddyTree<'_> as Space>::open(self, n) {
-            return false;
+        let open = self.open(n);
+        if open {
+            self.set_out(n, true);
         }
-        let depth = self.depth;
-        // Moved out and back, since the bytes are not tidy before the walk up has come to its end.
-        let b = std::mem::replace(&mut self.bytes, &mut []);
-        mark(b, depth, n);
-        self.bytes = b;
-        true
+        open
     }
 
     fn give(&mut self, n: usize) -> bool
@@ -115,63 +168,11 @@ impl<'a> Space for BuddyTree<'a> {
         ensures named { self.new.bytes.ghost_name ≡ self.old.bytes.ghost_name }
         ensures beyond { (k : ℕ) → 2 ^ (self.old.depth + 1) ≤ k → byte self.new.bytes.now k ≡ byte self.old.bytes.now k }
     {
-        if !<BuddyTree<'_> as Space>::out(self, n) {
-            return false;
+        let out = self.out(n);
+        if out {
+            self.set_out(n, false);
         }
-        let depth = self.depth;
-        let b = std::mem::replace(&mut self.bytes, &mut []);
-        clear(b, depth, n);
-        self.bytes = b;
-        true
-    }
-}
-
-// Clears the first n bytes.
-fn wipe(b: &mut [u8], n: usize)
-    requires { n ≤ length b.old }
-    ensures { b.new ≡ replicate n 0 ++ drop n b.old }
-{
-    for i in 0..n {
-        b[i] = 0;
-    }
-}
-
-// Marks n as out, and each place above it as one that holds a place out.
-fn mark(b: &mut [u8], d: usize, n: usize)
-    requires place { is_place d n ≡ true }
-    requires long { 2 ^ (d + 1) ≤ length b.old }
-    requires tidy { Tidy d b.old }
-    requires free { byte b.old n ≡ 0 }
-    requires under { (k : ℕ) → lies n k ≡ true → byte b.old k ≢ 1 }
-    ensures tidy { Tidy d b.new }
-    ensures ones { (k : ℕ) → (byte b.new k == 1) ≡ (k == n || byte b.old k == 1) }
-    ensures beyond { (k : ℕ) → is_place d k ≡ false → byte b.new k ≡ byte b.old k }
-{
-    b[n] = 1;
-    let mut a = n / 2;
-    while a > 0 {
-        b[a] = 2;
-        a /= 2;
-    }
-}
-
-// Clears n, which is out, and sets each place above it by its two halves.
-fn clear(b: &mut [u8], d: usize, n: usize)
-    requires place { is_place d n ≡ true }
-    requires long { 2 ^ (d + 1) ≤ length b.old }
-    requires shallow { d ≤ 12 }
-    requires tidy { Tidy d b.old }
-    requires out { byte b.old n ≡ 1 }
-    ensures tidy { Tidy d b.new }
-    ensures ones { (k : ℕ) → (byte b.new k == 1) ≡ (not (k == n) && byte b.old k == 1) }
-    ensures beyond { (k : ℕ) → is_place d k ≡ false → byte b.new k ≡ byte b.old k }
-{
-    b[n] = 0;
-    let mut a = n / 2;
-    while a > 0 {
-        let v = above(b[2 * a], b[2 * a + 1]);
-        b[a] = v;
-        a /= 2;
+        out
     }
 }
 
@@ -180,47 +181,4 @@ fn above(l: u8, r: u8) -> u8
     ensures { result ≡ (if nat_eq (l + r) 0 then 0 else 2) }
 {
     if l == 0 && r == 0 { 0 } else { 2 }
-}
-
-// Nothing if n overlaps no place out; else a place from n on up to which every one overlaps a place out.
-// Where a place above n is out, that is the last of n's depth in it, so that a search leaves it in one step.
-fn obstacle(b: &[u8], d: usize, n: usize) -> Option<usize>
-    requires place { is_place d n ≡ true }
-    requires long { 2 ^ (d + 1) ≤ length b.now }
-    requires live { 0 < d }
-    requires shallow { d ≤ 12 }
-    requires tidy { Tidy d b.now }
-    ensures { MatchOption result (blocked (tree_meaning d b.now) n ≡ false) (Blocked (tree_meaning d b.now) n) }
-{
-    if b[n] != 0 {
-        return Some(n);
-    }
-    for k in 1..=depth_of(n) {
-        let a = n >> k;
-        if b[a] == 1 {
-            return Some(((a + 1) << k) - 1);
-        }
-    }
-    None
-}
-
-// The first place from n to before e that overlaps no place out. Each turn leaves a place out behind,
-// so the cost goes with the number of those and not with e - n.
-fn first_free(b: &[u8], d: usize, n: usize, e: usize) -> Option<usize>
-    requires above { 0 < n }
-    requires below { e ≤ 2 ^ (d + 1) }
-    requires long { 2 ^ (d + 1) ≤ length b.now }
-    requires live { 0 < d }
-    requires shallow { d ≤ 12 }
-    requires tidy { Tidy d b.now }
-    ensures { MatchOption result ((j : ℕ) → n ≤ j → j < e → blocked (tree_meaning d b.now) j ≡ true) (Free (tree_meaning d b.now) n e) }
-{
-    let mut k = n;
-    while k < e {
-        let Some(last) = obstacle(b, d, k) else {
-            return Some(k);
-        };
-        k = last + 1;
-    }
-    None
 }

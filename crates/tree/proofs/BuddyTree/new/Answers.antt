@@ -1,32 +1,28 @@
-use Rattle.std.proofs.Common.{◌≡◌, ℕ, ◌+◌, ◌*◌, ◌%◌, ◌^◌, ◌<◌, ◌++◌, length, drop, replicate, sym, refl, ap, ◌∙◌, arith}
+use Rattle.std.proofs.Common.{◌≡◌, ℕ, ◌+◌, ◌^◌, ◌≤◌, true, length, sym, ◌∙◌, arith, rules, length-take}
 use Rattle.std.proofs.lemmas.Nat.{one_shl, pow_pos}
 use Rattle.std.proofs.lemmas.Bool.{cond-true}
-use Rattle.space.specs.Meaning.{fresh, shut}
-use Rattle.tree.specs.Tree.{byte, room}
+use Rattle.tree.specs.Tree.{room}
 use Rattle.tree.proofs.Made.{wiped_clear, tidy_wiped, fresh_wiped, room-true}
 use Rattle.tree.proofs.BuddyTree.new.Goals as goal
 
-pub invariant_of-result-2 : goal.invariant_of-result-2
-invariant_of-result-2 c =
-    let d = c.args.depth in
-    let e : (1 * 2 ^ (d + 1)) % 2 ^ 64 ≡ 2 ^ (d + 1) = one_shl (d + 1) 64 (omega arith) in
-    let clear : (k : ℕ) → k < 2 ^ (d + 1) → byte c.wipe.new.b k ≡ 0 = λ k lt. wiped_clear _ c.args.bytes.now _ c.wipe.ensures k (omega arith) in
-    record {
-      shallow = omega arith;
-      sized = λ live. omega (arith, c.wipe.auto.b, c.if-bytes-n.false);
-      tidy = λ live. tidy_wiped d c.wipe.new.b clear;
-      first = λ live. clear 0 (pow_pos (d + 1));
-    }
+pub invariant_of-result-2-clause-tidy : goal.invariant_of-result-2-clause-tidy
+invariant_of-result-2-clause-tidy c = λ live.
+    let small : c.args.depth ≤ 12 = search rules in
+    let n = one_shl (c.args.depth + 1) 64 (omega arith) in
+    tidy_wiped c.args.depth _ (wiped_clear (2 ^ (c.args.depth + 1)) _ c.fill.new.self _ (c.fill.ensures.after (λ y e. e)) (omega (arith, length-take {A = ℕ})))
 
-pub returns : goal.returns
-returns c =
+pub invariant_of-result-2-clause-first : goal.invariant_of-result-2-clause-first
+invariant_of-result-2-clause-first c = λ live.
+    let small : c.args.depth ≤ 12 = search rules in
+    let n = one_shl (c.args.depth + 1) 64 (omega arith) in
+    let p = pow_pos (c.args.depth + 1) in
+    wiped_clear 1 _ c.fill.new.self _ (c.fill.ensures.after (λ y e. e)) (omega (arith, length-take {A = ℕ})) 0 (omega arith)
+
+pub returns-clause-meaning : goal.returns-clause-meaning
+returns-clause-meaning c =
     let d = c.args.depth in
-    let b = c.args.bytes.now in
-    let e : (1 * 2 ^ (d + 1)) % 2 ^ 64 ≡ 2 ^ (d + 1) = one_shl (d + 1) 64 (omega arith) in
-    let clear : (k : ℕ) → k < 2 ^ (d + 1) → byte c.wipe.new.b k ≡ 0 = λ k lt. wiped_clear _ b _ c.wipe.ensures k (omega arith) in
-    let s = room-true d (length b) (omega arith) (omega arith) (omega (arith, c.if-bytes-n.false)) in
-    record {
-      meaning = fresh_wiped d c.wipe.new.b clear (omega arith) ∙ sym (cond-true (room d (length b)) (fresh d) shut s);
-      memory = c.wipe.ensures ∙ ap (λ x. replicate x 0 ++ drop x b) e ∙ sym (cond-true (room d (length b)) (replicate (2 ^ (d + 1)) 0 ++ drop (2 ^ (d + 1)) b) b s);
-      named = refl;
-    }
+    let live : 1 ≤ d = search rules in
+    let small : d ≤ 12 = search rules in
+    let n = one_shl (d + 1) 64 (omega arith) in
+    let has : room d (length c.args.bytes.now) ≡ true = room-true d _ live small (omega arith) in
+    fresh_wiped d _ (wiped_clear (2 ^ (d + 1)) _ c.fill.new.self _ (c.fill.ensures.after (λ y e. e)) (omega (arith, length-take {A = ℕ}))) (omega arith) ∙ sym (cond-true _ _ _ has)
