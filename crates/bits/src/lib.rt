@@ -2,97 +2,57 @@
 // the words do not have is 0. Each loop goes word by word, whatever the ends of its run.
 #![tactic(auto)]
 
-ghost use Rattle.std.specs.Prelude.{◌≡◌, ℕ, ◌+◌, ◌-◌, ◌*◌, ◌%◌, ◌^◌, ◌<◌, ◌≤◌, min, true, false, not, ◌&&◌, ◌||◌, ◌++◌, length, drop, replicate, nat_lt, slice_index};
-ghost use Rattle.bits.specs.Bit.{bit, within};
+ghost use Rattle.std.specs.Prelude.{◌≡◌, ℕ, ◌+◌, ◌*◌, ◌/◌, ◌<◌, ◌≤◌, min, not, ◌&&◌, ◌++◌, length, drop, replicate, if◌then◌else◌, nat_lt, slice_index};
+ghost use Rattle.bits.specs.Bit.{on, bit, within};
 
 // Whether bit i is set.
 pub fn bit_at(words: &[u64], i: usize) -> bool
     ensures { result ≡ bit words.now i }
 {
-    i / 64 < words.len() && (words[i / 64] >> (i % 64)) % 2 == 1
+    words.get(i / 64).is_some_and(|w| (w >> (i % 64)) % 2 == 1)
 }
 
-// How many bits of the run i..e stand in the word of bit i.
-fn reach(i: usize, e: usize) -> usize
-    requires { i < e }
-    ensures { (0 < result) × ((i + result ≤ e) × (i % 64 + result ≤ 64)) }
+// The bits of word w that lie in the run a..e, of which w is one of the words.
+fn part(w: usize, a: usize, e: usize) -> u64
+    requires from { a / 64 ≤ w }
+    requires to { 64 * w < e }
+    ensures { (j : ℕ) → j < 64 → on result j ≡ within a e (64 * w + j) }
 {
-    (64 - i % 64).min(e - i)
+    let low = a.saturating_sub(64 * w);
+    let high = (e - 64 * w).min(64);
+    (u64::MAX << low) & (u64::MAX >> (64 - high))
 }
 
-// The first set bit of the run a..e, or e.
-pub fn first_set(words: &[u64], a: usize, e: usize) -> usize
+// The first bit of the run a..e that is `SET`, or e.
+pub fn first<const SET: bool>(words: &[u64], a: usize, e: usize) -> usize
     ensures range { result ≤ e }
-    ensures before { (k : ℕ) → a ≤ k → k < result → bit words.now k ≡ false }
-    ensures found { result < e → (a ≤ result) × (bit words.now result ≡ true) }
+    ensures before { (k : ℕ) → a ≤ k → k < result → bit words.now k ≡ not SET }
+    ensures found { result < e → (a ≤ result) × (bit words.now result ≡ SET) }
 {
-    let mut i = a;
-    while i < e {
-        if i / 64 >= words.len() {
-            return e;
+    for w in a / 64..e.div_ceil(64).min(words.len()) {
+        let word = if SET { words[w] } else { !words[w] };
+        let hits = word & part(w, a, e);
+        if hits != 0 {
+            return 64 * w + hits.trailing_zeros() as usize;
         }
-        let n = reach(i, e);
-        let z = (words[i / 64] >> (i % 64)).trailing_zeros() as usize;
-        if z < n {
-            return i + z;
-        }
-        i += n;
     }
-    e
+    // Behind the words every bit is clear.
+    let behind = words.len().saturating_mul(64).max(a).min(e);
+    if SET { e } else { behind }
 }
 
-// The first clear bit of the run a..e, or e.
-pub fn first_clear(words: &[u64], a: usize, e: usize) -> usize
-    ensures range { result ≤ e }
-    ensures before { (k : ℕ) → a ≤ k → k < result → bit words.now k ≡ true }
-    ensures found { result < e → (a ≤ result) × (bit words.now result ≡ false) }
-{
-    let mut i = a;
-    while i < e {
-        if i / 64 >= words.len() {
-            return i;
-        }
-        let n = reach(i, e);
-        let z = (!words[i / 64] >> (i % 64)).trailing_zeros() as usize;
-        if z < n {
-            return i + z;
-        }
-        i += n;
-    }
-    e
-}
-
-// A word with n set bits, from bit s up.
-fn mask(s: usize, n: usize) -> u64
-    requires { (0 < n) × (s + n ≤ 64) }
-    ensures { result ≡ (2 ^ n - 1) * 2 ^ s }
-{
-    (u64::MAX >> (64 - n)) << s
-}
-
-// Sets the run a..e, as far as the words go.
-pub fn set_run(words: &mut [u64], a: usize, e: usize)
-    ensures bits { (k : ℕ) → bit words.new k ≡ ((within a e k && nat_lt k (64 * length words.old)) || bit words.old k) }
+// Sets the run a..e to `SET`, as far as the words go.
+pub fn fill_run<const SET: bool>(words: &mut [u64], a: usize, e: usize)
+    ensures bits { (k : ℕ) → bit words.new k ≡ (if within a e k && nat_lt k (64 * length words.old) then SET else bit words.old k) }
     ensures beyond { (k : ℕ) → e ≤ 64 * k → slice_index words.new k ≡ slice_index words.old k }
 {
-    let mut i = a;
-    while i < e && i / 64 < words.len() {
-        let n = reach(i, e);
-        words[i / 64] |= mask(i % 64, n);
-        i += n;
-    }
-}
-
-// Clears the run a..e.
-pub fn clear_run(words: &mut [u64], a: usize, e: usize)
-    ensures bits { (k : ℕ) → bit words.new k ≡ (not (within a e k) && bit words.old k) }
-    ensures beyond { (k : ℕ) → e ≤ 64 * k → slice_index words.new k ≡ slice_index words.old k }
-{
-    let mut i = a;
-    while i < e && i / 64 < words.len() {
-        let n = reach(i, e);
-        words[i / 64] &= !mask(i % 64, n);
-        i += n;
+    for w in a / 64..e.div_ceil(64).min(words.len()) {
+        let bits = part(w, a, e);
+        words[w] = if SET {
+            words[w] | bits
+        } else {
+            words[w] & !bits
+        };
     }
 }
 
@@ -101,7 +61,5 @@ pub fn wipe(words: &mut [u64], n: usize)
     ensures { words.new ≡ replicate (min n (length words.old)) 0 ++ drop (min n (length words.old)) words.old }
 {
     let m = n.min(words.len());
-    for i in 0..m {
-        words[i] = 0;
-    }
+    words[..m].fill(0);
 }
