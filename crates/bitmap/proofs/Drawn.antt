@@ -1,16 +1,16 @@
 -- The set of places out says what every bit, and so every word, of the two shares is.
-use Rattle.std.proofs.Common.{◌≡◌, ℕ, zero, suc, ◌+◌, ◌-◌, ◌*◌, ◌/◌, ◌%◌, ◌^◌, ◌<◌, ◌≤◌, Bool, true, cond, ◌&&◌, eqb, ltb, List, length, get_or, take, sym, ap, ◌∙◌, ap₂, ⊎_elim, arith}
+use Rattle.std.proofs.Common.{◌≡◌, ℕ, zero, suc, ◌+◌, ◌-◌, ◌*◌, ◌/◌, ◌%◌, ◌^◌, ◌<◌, ◌≤◌, Bool, true, cond, ◌&&◌, eqb, List, length, get_or, take, sym, ap, ◌∙◌, ap₂, ⊎_elim, arith}
 use Rattle.std.proofs.lemmas.Nat.{mod-pow-add}
 use Rattle.std.proofs.lemmas.List.FromFn.{fill_by_all}
 use Rattle.std.proofs.lemmas.List.{length-take-le, get_or-take}
-use Rattle.std.proofs.lemmas.Bool.{cases_lt, cases_eq, and_parts, and_from, both_ways, eq-eqb, eqb-true, lt-ltb, le-ltb, cond-true, cond-false}
+use Rattle.std.proofs.lemmas.Bool.{cases_lt, and_parts, and_from, both_ways, eq-eqb, eqb-true}
+use Rattle.std.proofs.lemmas.Bool.Decides.{nat_tests}
 use Rattle.space.specs.Bounded.{some_below, sum_below}
 use Rattle.space.specs.Places.{size}
 use Rattle.space.proofs.Below.{some_here, some_has, sum_same}
 use Rattle.space.proofs.Depths.{place_below}
 use Rattle.space.proofs.Truth.{same_test}
 use Rattle.bits.specs.Bit.{on, bit, within}
-use Rattle.bits.proofs.Runs.{run_parts}
 use Rattle.bitmap.specs.Map.{share, first, marked, starts, map_out, covered, begun, pin, word_of, drawn, Tidy}
 use Rattle.bitmap.specs.Whole.{out_of, of_out}
 use Rattle.bitmap.proofs.Units.{Holder, holder}
@@ -33,9 +33,8 @@ module _ (d : ℕ) (ws : List ℕ) (tidy : Tidy d ws) where
       (λ on. kept_of d (marked d ws) (starts d ws) tidy u (marked-bit d ws u lt ∙ on))
       (λ s.
       let t = some_has (2 ^ (d + 1)) p s in
-      let x = and_parts (map_out d (marked d ws) (starts d ws) t.0) _ t.2 in
-      let r = run_parts (first d t.0) (first d t.0 + size d t.0) u x.1 in
-      sym (marked-bit d ws u lt) ∙ (out_of d (marked d ws) (starts d ws) t.0 x.0).is.full u r.0 r.1)
+      let x = t.2 in
+      sym (marked-bit d ws u lt) ∙ (out_of d (marked d ws) (starts d ws) t.0 (grind (arith, nat_tests))).is.full u (grind (arith, nat_tests)) (grind (arith, nat_tests)))
 
   start_pinned : (u : ℕ) → u < 64 * share d → bit ws (64 * share d + u) ≡ begun d (map_out d (marked d ws) (starts d ws)) u
   start_pinned u lt =
@@ -57,19 +56,16 @@ module _ (d : ℕ) (ws : List ℕ) (tidy : Tidy d ws) where
   pinned : (i : ℕ) → i < 128 * share d → bit ws i ≡ pin d (map_out d (marked d ws) (starts d ws)) i
   pinned i lt =
       ⊎_elim
-      (λ l. mark_pinned i l ∙ sym (cond-true (ltb i (64 * share d)) _ _ (lt-ltb i (64 * share d) l)))
+      (λ l. let m = mark_pinned i l in grind (arith, nat_tests))
       (λ g.
-      let q : i ≡ 64 * share d + (i - 64 * share d) = omega arith in
-      ap (bit ws) q ∙ start_pinned (i - 64 * share d) (omega arith) ∙ sym (cond-false (ltb i (64 * share d)) _ _ (le-ltb i (64 * share d) g)))
+      let q : 64 * share d + (i - 64 * share d) ≡ i = omega arith in
+      let m = ap (bit ws) (sym q) ∙ start_pinned (i - 64 * share d) (omega arith) in
+      grind (arith, nat_tests))
       (cases_lt i (64 * share d))
 
 -- a number of n digits is the sum of its set digits
 digit_value : (x p : ℕ) → x < 2 → cond (eqb x 1) p 0 ≡ x * p
-digit_value x p lt =
-    ⊎_elim
-    (λ z. ap (λ y. cond (eqb y 1) p 0) z ∙ sym (ap (λ y. y * p) z ∙ omega arith))
-    (λ nz. let o : x ≡ 1 = omega arith in ap (λ y. cond (eqb y 1) p 0) o ∙ sym (ap (λ y. y * p) o ∙ omega arith))
-    (cases_eq x 0)
+digit_value x p lt = grind (arith, nat_tests)
 
 digit_sum : (n w : ℕ) → sum_below n (λ i. cond (on w i) (2 ^ i) 0) ≡ w % 2 ^ n
 unfolding sum_below

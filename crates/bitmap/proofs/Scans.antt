@@ -1,18 +1,19 @@
 -- What a scan of the words says of a place.
 use Rattle.std.proofs.Common.{◌≡◌, ℕ, ◌+◌, ◌-◌, ◌*◌, ◌^◌, ◌<◌, ◌≤◌, true, false, not, ◌&&◌, eqb, List, sym, ap, ◌∙◌, ⊎_elim, arith}
-use Rattle.std.proofs.lemmas.Bool.{cases_eq, cases_Bool, and_parts, and_from, both_ways, eq-eqb, ne_eqb, not-true, not_from_false, not_from_true}
+use Rattle.std.proofs.lemmas.Bool.{cases_eq, cases_Bool, and_parts, and_from, both_ways, lt-ltb}
+use Rattle.std.proofs.lemmas.Bool.Decides.{nat_tests}
 use Rattle.space.specs.Places.{is_place, size, lies}
-use Rattle.space.specs.Meaning.{blocked, is_busy}
+use Rattle.space.specs.Meaning.{blocked, is_open, is_busy}
 use Rattle.space.proofs.Truth.{false_from, same_test}
 use Rattle.space.proofs.Below.{none_below}
 use Rattle.space.proofs.Lies.{lies_le, lies_pos}
 use Rattle.space.proofs.Depths.{place_of, place_below}
 use Rattle.bits.specs.Bit.{bit}
-use Rattle.bitmap.specs.Map.{first, share, marked, starts, map_out, map_meaning, Kept, Tidy}
+use Rattle.bitmap.specs.Map.{has, Spans, first, share, marked, starts, map_out, map_meaning, Kept, Tidy}
 use Rattle.space.proofs.Ranges.{size_pos}
 use Rattle.bitmap.specs.Whole.{span, out_of, of_out}
 use Rattle.bitmap.proofs.Units.{holder, hit_none, hit_some, busy_none, busy_some, busy_part}
-use Rattle.bitmap.proofs.Words.{share_fits, marked-bit, starts-bit, kept_of, borne_of}
+use Rattle.bitmap.proofs.Words.{share_fits, marked-bit, starts-bit, kept_of, borne_of, has_parts}
 
 module _ (d : ℕ) (ws : List ℕ) (n : ℕ) (at : is_place d n ≡ true) where
   -- the bits of the units of n
@@ -54,12 +55,10 @@ module _ (d : ℕ) (ws : List ℕ) (n : ℕ) (at : is_place d n ≡ true) where
           start = here_starts (first d n) (omega arith) ∙ st;
           full = λ u lo hi. here_marked u hi ∙ full u lo hi;
           single = λ u lo hi. here_starts u hi ∙ single (64 * share d + u) (omega arith) (omega arith);
-          ends = λ c. ⊎_elim (λ x. x) (λ x. absurd (both_ways (marked d ws e && not (starts d ws e)) (not-true _ t) (and_from _ _ c (not_from_false (starts d ws e) x)))) (cases_Bool (starts d ws e));
+          ends = λ c. grind (arith, nat_tests);
         };
       }))
-      (λ o. not_from_false (marked d ws e && not (starts d ws e)) (false_from (marked d ws e && not (starts d ws e)) (λ x.
-      let t = and_parts (marked d ws e) _ x in
-      both_ways (starts d ws e) (not-true _ t.1) ((out_of d (marked d ws) (starts d ws) n o).is.ends t.0))))
+      (λ o. let ends = (out_of d (marked d ws) (starts d ws) n o).is.ends in grind (arith, nat_tests))
 
   module _ (tidy : Tidy d ws) where
     kept : Kept d (marked d ws) (starts d ws)
@@ -70,14 +69,6 @@ module _ (d : ℕ) (ws : List ℕ) (n : ℕ) (at : is_place d n ≡ true) where
 
     pub hit_clear : ((u : ℕ) → first d n ≤ u → u < first d n + size d n → bit ws u ≡ false) → blocked (map_meaning d ws) n ≡ false
     hit_clear f = hit_none d (marked d ws) (starts d ws) n at (λ u lo hi. here_marked u hi ∙ f u lo hi)
-
-    pub free_from : (r : ℕ) → r ≤ first d n + size d n → ((u : ℕ) → first d n ≤ u → u < r → bit ws u ≡ false) → (r < first d n + size d n → (first d n ≤ r) × (bit ws r ≡ true))
-        → eqb r (first d n + size d n) ≡ not (blocked (map_meaning d ws) n)
-    free_from r hi before found =
-        ⊎_elim
-        (λ q. eq-eqb r _ q ∙ sym (not_from_false _ (hit_clear (λ u a b. before u a (omega arith)))))
-        (λ ne. let f = found (omega arith) in ne_eqb r _ ne ∙ sym (not_from_true _ (hit_at r f.0 (omega arith) f.1)))
-        (cases_eq r (first d n + size d n))
 
     pub idle_from : ((i : ℕ) → 64 * share d + first d n ≤ i → i < 64 * share d + (first d n + size d n) → bit ws i ≡ false) → is_busy (map_meaning d ws) n ≡ false
     idle_from f = busy_none d (marked d ws) (starts d ws) n at (λ u lo hi. here_starts u hi ∙ f (64 * share d + u) (omega arith) (omega arith))
@@ -91,16 +82,22 @@ module _ (d : ℕ) (ws : List ℕ) (n : ℕ) (at : is_place d n ≡ true) where
         let st : starts d ws (i - b) ≡ true = here_starts (i - b) (omega arith) ∙ ap (bit ws) q ∙ t in
         let borne = borne_of d (marked d ws) (starts d ws) tidy in
         ⊎_elim
-        (λ x.
-        let y = and_parts (marked d ws e) _ x in
-        ap not x ∙ sym (busy_part d (marked d ws) (starts d ws) n at kept y.0 (not-true _ y.1)))
-        (λ x.
-        ap not x ∙ sym (busy_some d (marked d ws) (starts d ws) n at kept borne (i - b) (omega arith) (omega arith) st
-        (λ c. ⊎_elim (λ z. z) (λ z. absurd (both_ways (marked d ws e && not (starts d ws e)) x (and_from _ _ c (not_from_false (starts d ws e) z)))) (cases_Bool (starts d ws e)))))
+        (λ x. let b = busy_part d (marked d ws) (starts d ws) n at kept (grind (arith, nat_tests)) (grind (arith, nat_tests)) in grind (arith, nat_tests))
+        (λ x. let b = busy_some d (marked d ws) (starts d ws) n at kept borne (i - b) (omega arith) (omega arith) st (λ c. grind (arith, nat_tests)) in grind (arith, nat_tests))
         (cases_Bool (marked d ws e && not (starts d ws e)))
 
+-- n is open where the first of its bits that is set is past them
+pub open_from : (d : ℕ) (ws : List ℕ) (n a e r : ℕ) → has d n ≡ true → Spans d n a e → (0 < d → Tidy d ws)
+    → r ≤ e → ((u : ℕ) → a ≤ u → u < r → bit ws u ≡ false) → (r < e → (a ≤ r) × (bit ws r ≡ true)) → eqb r e ≡ is_open (map_meaning d ws) n
+open_from d ws n a e r h s tidy hi before found =
+    let p = has_parts d n h in
+    ⊎_elim
+    (λ q. let b = hit_clear d ws n p.1 (tidy p.0) (λ u x y. before u (omega (arith, s.from)) (omega (arith, s.to))) in grind (arith, nat_tests))
+    (λ ne. let f = found (omega arith) in let b = hit_at d ws n p.1 (tidy p.0) r (omega (arith, f.0, s.from)) (omega (arith, s.to)) f.1 in grind (arith, nat_tests))
+    (cases_eq r e)
+
 -- nothing is busy outside the map
-pub busy_off : (d : ℕ) (ws : List ℕ) (w : ℕ) → (0 < d → is_place d w ≡ true → ⊥) → is_busy (map_meaning d ws) w ≡ false
+pub busy_off : (d : ℕ) (ws : List ℕ) (w : ℕ) → has d w ≡ false → is_busy (map_meaning d ws) w ≡ false
 busy_off d ws w outside =
     none_below (2 ^ (d + 1)) (λ k. map_out d (marked d ws) (starts d ws) k && lies k w)
     (λ k lt. false_from (map_out d (marked d ws) (starts d ws) k && lies k w) (λ e.
@@ -108,4 +105,4 @@ busy_off d ws w outside =
     let o = out_of d (marked d ws) (starts d ws) k t.0 in
     let le = lies_le k w t.1 in
     let low = place_below d k o.at in
-    outside o.live (place_of d w (lies_pos k w t.1) (omega arith))))
+    both_ways (has d w) outside (and_from _ _ (lt-ltb 0 d o.live) (place_of d w (lies_pos k w t.1) (omega arith)))))

@@ -1,5 +1,5 @@
 -- A search among the places of one depth.
-use Rattle.std.proofs.Common.{◌≡◌, ℕ, ◌+◌, ◌-◌, ◌*◌, ◌/◌, ◌%◌, ◌^◌, ◌<◌, ◌≤◌, min, true, false, List, ap, ◌∙◌, ⊎_elim, add-mul, arith, pow_pos, pow_mono}
+use Rattle.std.proofs.Common.{◌≡◌, ℕ, ◌+◌, ◌-◌, ◌*◌, ◌/◌, ◌%◌, ◌^◌, ◌<◌, ◌≤◌, min, true, false, List, sym, ap, ◌∙◌, ⊎_elim, add-mul, arith, pow_pos, pow_mono}
 use Rattle.std.proofs.lemmas.Bool.{cases_eq, cases_lt, both_ways}
 use Rattle.std.proofs.lemmas.Nat.{mul-le, div-add-mod', mod_below}
 use Rattle.space.specs.Places.{is_place, size}
@@ -42,38 +42,33 @@ clear_past ws u z e lt set found =
     (λ g. omega arith)
     (cases_lt z e)
 
--- the units of a place of depth d in a map of depth t
-pub record Run (t d j : ℕ) : Type 0 where
+-- the s units of place j in a map of depth t, which has `top` units
+pub record Run (t j s top : ℕ) : Type 0 where
   pub at : is_place t j ≡ true
-  pub wide : size t j ≡ 2 ^ (t - d)
-  pub from : first t j + 2 ^ t ≡ j * 2 ^ (t - d)
-  pub to : first t j + 2 ^ (t - d) ≤ 2 ^ t
-  pub some : 0 < 2 ^ (t - d)
+  pub wide : size t j ≡ s
+  pub from : first t j + top ≡ j * s
+  pub to : first t j + s ≤ top
+  pub some : 0 < s
 
-pub run_at : (t d j : ℕ) → d ≤ t → 2 ^ d ≤ j → j < 2 ^ (d + 1) → Run t d j
-run_at t d j le lo hi =
-    let lv = depth_is d j lo hi in
+pub run_at : (t d j s top : ℕ) → s ≡ 2 ^ (t - d) → top ≡ 2 ^ t → d ≤ t → 2 ^ d ≤ j → j < 2 ^ (d + 1) → Run t j s top
+run_at t d j s top se te le lo hi =
     let more : d + 1 ≤ t + 1 = omega arith in
     let m : 2 ^ (d + 1) ≤ 2 ^ (t + 1) = pow_mono more in
-    let p = pow_pos d in
-    let at = place_of t j (omega arith) (omega arith) in
-    let w : size t j ≡ 2 ^ (t - d) = ap (λ l. 2 ^ (t - l)) lv in
-    let s = span t j at in
+    let at = place_of t j (omega (arith, pow_pos d)) (omega arith) in
+    let w : size t j ≡ s = ap (λ l. 2 ^ (t - l)) (depth_is d j lo hi) ∙ sym se in
     let z = ap (λ x. j * x) w in
-    record { at = at; wide = w; from = omega arith; to = omega arith; some = pow_pos (t - d) }
+    let u = span t j at in
+    record { at = at; wide = w; from = omega arith; to = omega arith; some = omega (arith, pow_pos (t - d)) }
 
--- all places that begin before unit z, from j on, are blocked, where c to z is marked and c is a unit of j
-pub skipped : (t d : ℕ) (ws : List ℕ) (j c z i : ℕ) → Tidy t ws → d ≤ t → 2 ^ d ≤ j → i < 2 ^ (d + 1) → j ≤ i
-    → j * 2 ^ (t - d) ≤ c + 2 ^ t → c + 2 ^ t < j * 2 ^ (t - d) + 2 ^ (t - d) → ((u : ℕ) → c ≤ u → u < z → bit ws u ≡ true) → c < z → i * 2 ^ (t - d) < z + 2 ^ t → blocked (map_meaning t ws) i ≡ true
-skipped t d ws j c z i tidy le lo hi ji a b all cz before =
-    let r = run_at t d i le (omega arith) hi in
+-- places of s units each: i begins before unit z, and is j or behind it, where c to z is marked and c is a unit of j
+pub skipped : (t : ℕ) (ws : List ℕ) (j c z i s top : ℕ) → Tidy t ws → Run t i s top → j ≤ i
+    → j * s ≤ c + top → c + top < j * s + s → ((u : ℕ) → c ≤ u → u < z → bit ws u ≡ true) → c < z → i * s < z + top → blocked (map_meaning t ws) i ≡ true
+skipped t ws j c z i s top tidy r ji a b all cz before =
     ⊎_elim
-    (λ q.
-    let m = ap (λ x. x * 2 ^ (t - d)) q in
-    hit_at t ws i r.at tidy c (omega arith) (omega arith) (all c (omega arith) cz))
+    (λ q. let m = ap (λ x. x * s) q in hit_at t ws i r.at tidy c (omega arith) (omega arith) (all c (omega arith) cz))
     (λ ne.
-    let m : (j + 1) * 2 ^ (t - d) ≤ i * 2 ^ (t - d) = mul-le (j + 1) (2 ^ (t - d)) i (2 ^ (t - d)) (omega arith) (omega arith) in
-    let n = add-mul j 1 (2 ^ (t - d)) in
+    let m : (j + 1) * s ≤ i * s = mul-le (j + 1) s i s (omega arith) (omega arith) in
+    let n = add-mul j 1 s in
     let p = r.some in
     let f = r.from in
     hit_at t ws i r.at tidy (first t i) (omega arith) (omega arith) (all (first t i) (omega arith) (omega arith)))

@@ -1,6 +1,7 @@
 -- Whose a marked unit is, and what that says of a place.
 use Rattle.std.proofs.Common.{◌≡◌, ℕ, ◌+◌, ◌-◌, ◌^◌, ◌<◌, ◌≤◌, Bool, true, false, ◌&&◌, sym, ap, ◌∙◌, ⊎_elim, arith}
 use Rattle.std.proofs.lemmas.Bool.{cases_lt, and_parts, and_from, or_cases, both_ways}
+use Rattle.std.proofs.lemmas.Bool.Decides.{nat_tests}
 use Rattle.space.specs.Bounded.{some_below}
 use Rattle.space.specs.Places.{lies, overlap, is_place, size}
 use Rattle.space.proofs.Truth.{false_from}
@@ -8,7 +9,6 @@ use Rattle.space.proofs.Depths.{place_below, place_pos}
 use Rattle.space.proofs.Lies.{lies_self}
 use Rattle.space.proofs.Below.{some_here, some_has, none_below}
 use Rattle.bits.specs.Bit.{within}
-use Rattle.bits.proofs.Runs.{in_run, run_parts}
 use Rattle.bitmap.specs.Map.{first, map_out, covered, Kept, Borne}
 use Rattle.space.proofs.Ranges.{size_pos}
 use Rattle.bitmap.specs.Whole.{nested, shared, same_place, Out, out_of, of_out, apart}
@@ -25,15 +25,14 @@ module _ (d : ℕ) (cov st : ℕ → Bool) (kept : Kept d cov st) where
   pub holder : (u : ℕ) → cov u ≡ true → Holder d cov st u
   holder u c =
       let t = some_has (2 ^ (d + 1)) (λ k. map_out d cov st k && within (first d k) (first d k + size d k) u) (kept u c) in
-      let p = and_parts (map_out d cov st t.0) _ t.2 in
-      let r = run_parts (first d t.0) (first d t.0 + size d t.0) u p.1 in
-      record { who = t.0; out = out_of d cov st t.0 p.0; from = r.0; to = r.1 }
+      let p = t.2 in
+      record { who = t.0; out = out_of d cov st t.0 (grind (arith, nat_tests)); from = grind (arith, nat_tests); to = grind (arith, nat_tests) }
 
 -- the other way round
 pub held_by : (d : ℕ) (cov st : ℕ → Bool) (u : ℕ) → Holder d cov st u → covered d (map_out d cov st) u ≡ true
 held_by d cov st u h =
     some_here (2 ^ (d + 1)) (λ k. map_out d cov st k && within (first d k) (first d k + size d k) u) h.who (place_below d h.who h.out.at)
-    (and_from _ _ (of_out d cov st h.who h.out) (in_run (first d h.who) (first d h.who + size d h.who) u h.from h.to))
+    (let o = of_out d cov st h.who h.out in let from = h.from in let to = h.to in grind (arith, nat_tests))
 
 module _ (d : ℕ) (cov st : ℕ → Bool) (n : ℕ) (at : is_place d n ≡ true) where
   -- a place out that overlaps n has a unit in n

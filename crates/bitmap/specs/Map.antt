@@ -1,6 +1,6 @@
 -- A set of places read off words: the words are two equal shares of bits, one bit to a unit. The first share
 -- marks the units of places out, the second the first unit of each place out.
-use Rattle.std.specs.Prelude.{◌≡◌, ℕ, ◌+◌, ◌-◌, ◌*◌, ◌/◌, ◌^◌, max, Bool, true, cond, not, ◌&&◌, ◌||◌, List, map, ◌==◌, nat_le, nat_lt}
+use Rattle.std.specs.Prelude.{◌≡◌, ℕ, ◌+◌, ◌-◌, ◌*◌, ◌/◌, ◌^◌, ◌<◌, ◌≤◌, max, Bool, true, cond, if◌then◌else◌, not, ◌&&◌, ◌||◌, List, map, ◌==◌, nat_le, nat_lt}
 use Rattle.std.specs.List.{range_with_len}
 use Rattle.space.specs.Bounded.{some_below, sum_below}
 use Rattle.space.specs.Places.{is_place, size}
@@ -18,6 +18,17 @@ room d len = (nat_le 1 d && nat_le d 12) && nat_le (2 * share d) len
 -- the first unit of place n, which has `size d n` units; the units are the places of depth d, from 0 on
 unfoldable pub first : ℕ → ℕ → ℕ
 first d n = n * size d n - 2 ^ d
+
+-- the space is not shut, and n is a place of it
+abbrev pub has : ℕ → ℕ → Bool
+has d n = nat_lt 0 d && is_place d n
+
+-- the units of place n are those from a to before e
+pub record Spans (d n a e : ℕ) : Type 0 where
+  pub from : a ≡ first d n
+  pub to : e ≡ first d n + size d n
+  pub some : a < e
+  pub inside : e ≤ 2 ^ d
 
 -- unit u is marked; unit u is the first of a place out
 abbrev pub marked : ℕ → List ℕ → ℕ → Bool
@@ -59,12 +70,10 @@ sits d cov st u = cond (cov u || st u) (cov u && covered d (map_out d cov st) u)
 abbrev pub Tidy : ℕ → List ℕ → Type 0
 Tidy d words = (u : ℕ) → sits d (marked d words) (starts d words) u ≡ true
 
--- the words vs are the words ws with the units of place n marked and its first a start, and with both cleared
-abbrev pub Sets : ℕ → ℕ → List ℕ → List ℕ → Type 0
-Sets d n ws vs = (k : ℕ) → bit vs k ≡ (within (64 * share d + first d n) (64 * share d + first d n + 1) k || (within (first d n) (first d n + size d n) k || bit ws k))
-
-abbrev pub Clears : ℕ → ℕ → List ℕ → List ℕ → Type 0
-Clears d n ws vs = (k : ℕ) → bit vs k ≡ (not (within (64 * share d + first d n) (64 * share d + first d n + 1) k) && (not (within (first d n) (first d n + size d n) k) && bit ws k))
+-- the words vs are the words ws with the units from a to before e marked and a as a start, where out is true,
+-- and with both cleared where it is false
+abbrev pub Marks : ℕ → ℕ → ℕ → Bool → List ℕ → List ℕ → Type 0
+Marks d a e out ws vs = (k : ℕ) → bit vs k ≡ (if within (64 * share d + a) (64 * share d + a + 1) k || within a e k then out else bit ws k)
 
 -- what bit i of the two shares is, what word j is, and what all their words are, by the set of places out
 abbrev pub pin : ℕ → (ℕ → Bool) → ℕ → Bool

@@ -1,14 +1,12 @@
 -- Places out as runs of units, and why no two of them overlap, whatever the words hold.
 use Rattle.std.specs.Prelude.{◌≡◌, ℕ, ◌+◌, ◌-◌, ◌*◌, ◌^◌, ◌<◌, ◌≤◌, Bool, true, false, not, ◌&&◌, List, ◌≢◌, nat_lt}
-use Rattle.std.proofs.Common.{sym, ◌∙◌}
-use Rattle.std.proofs.Math.Path.{ap}
+use Rattle.std.proofs.Common.{sym}
 use Rattle.std.proofs.Math.Logic.{⊎_elim}
 use native.Mathlib.Omega.{arith}
-use Rattle.std.proofs.lemmas.Bool.{cases_eq, cases_lt, cases_Bool, and_parts, and_from, and_cases, ltb-true, lt-ltb, or_cases, both_ways, not-true, not-false, not_from_false}
-use Rattle.space.specs.Bounded.{some_below}
+use Rattle.std.proofs.lemmas.Bool.{cases_eq, cases_lt, or_cases, both_ways}
+use Rattle.std.proofs.lemmas.Bool.Decides.{nat_tests}
 use Rattle.space.specs.Places.{lies, overlap, is_place, size}
 use Rattle.space.specs.Meaning.{Sound}
-use Rattle.space.proofs.Truth.{false_from}
 use Rattle.space.proofs.Below.{some_none, none_below}
 use Rattle.space.proofs.Depths.{place_pos, depth_le, pow_more}
 use Rattle.bitmap.specs.Map.{first, whole, map_out, marked, starts, map_meaning}
@@ -55,35 +53,23 @@ module _ (cov st : ℕ → Bool) (a s : ℕ) where
   pub whole_of : whole cov st a s ≡ true → Whole cov st a s
   unfolding whole
   whole_of e =
-      let x = and_parts (st a) _ e in
-      let y = and_parts (not (some_below s (λ i. not (cov (a + i))))) _ x.1 in
-      let z = and_parts (not (some_below s (λ i. nat_lt 0 i && st (a + i)))) _ y.1 in
+      let gap = some_none s (λ i. not (cov (a + i))) in
+      let second = some_none s (λ i. nat_lt 0 i && st (a + i)) in
       record {
-        start = x.0;
-        full = λ u lo hi.
-            let q : a + (u - a) ≡ u = omega arith in
-            ap cov (sym q) ∙ not-false (cov (a + (u - a))) (some_none s (λ i. not (cov (a + i))) (not-true _ y.0) (u - a) (omega arith));
-        single = λ u lo hi.
-            let q : a + (u - a) ≡ u = omega arith in
-            ap st (sym q) ∙ ⊎_elim
-            (λ no_way. absurd (both_ways (nat_lt 0 (u - a)) no_way (lt-ltb 0 (u - a) (omega arith))))
-            (λ f. f)
-            (and_cases (nat_lt 0 (u - a)) (st (a + (u - a))) (some_none s (λ i. nat_lt 0 i && st (a + i)) (not-true _ z.0) (u - a) (omega arith)));
-        ends = λ c. ⊎_elim (λ t. t) (λ f. absurd (both_ways (cov (a + s) && not (st (a + s))) (not-true _ z.1) (and_from _ _ c (not_from_false (st (a + s)) f)))) (cases_Bool (st (a + s)));
+        start = grind (arith, nat_tests);
+        full = λ u lo hi. let q : a + (u - a) ≡ u = omega arith in let x = gap (grind (arith, nat_tests)) (u - a) (omega arith) in grind (arith, nat_tests);
+        single = λ u lo hi. let q : a + (u - a) ≡ u = omega arith in let x = second (grind (arith, nat_tests)) (u - a) (omega arith) in grind (arith, nat_tests);
+        ends = λ c. grind (arith, nat_tests);
       }
 
   pub of_whole : Whole cov st a s → whole cov st a s ≡ true
   unfolding whole
   of_whole w =
-      and_from _ _ w.start
-      (and_from _ _ (not_from_false _ (none_below s (λ i. not (cov (a + i))) (λ i lt. ap not (w.full (a + i) (omega arith) (omega arith)))))
-      (and_from _ _ (not_from_false _ (none_below s (λ i. nat_lt 0 i && st (a + i)) (λ i lt. false_from (nat_lt 0 i && st (a + i)) (λ e.
-      let t = and_parts (nat_lt 0 i) _ e in
-      let p = ltb-true 0 i t.0 in
-      both_ways (st (a + i)) (w.single (a + i) (omega arith) (omega arith)) t.1))))
-      (not_from_false _ (false_from (cov (a + s) && not (st (a + s))) (λ e.
-      let t = and_parts (cov (a + s)) _ e in
-      both_ways (st (a + s)) (not-true _ t.1) (w.ends t.0))))))
+      let start = w.start in
+      let gap = none_below s (λ i. not (cov (a + i))) (λ i lt. let x = w.full (a + i) (omega arith) (omega arith) in grind (arith, nat_tests)) in
+      let second = none_below s (λ i. nat_lt 0 i && st (a + i)) (λ i lt. let x = w.single (a + i) in grind (arith, nat_tests)) in
+      let ends = w.ends in
+      grind (arith, nat_tests)
 
 pub record Out (d : ℕ) (cov st : ℕ → Bool) (n : ℕ) : Type 0 where
   pub live : 0 < d
@@ -92,13 +78,10 @@ pub record Out (d : ℕ) (cov st : ℕ → Bool) (n : ℕ) : Type 0 where
 
 module _ (d : ℕ) (cov st : ℕ → Bool) where
   pub out_of : (n : ℕ) → map_out d cov st n ≡ true → Out d cov st n
-  out_of n e =
-      let x = and_parts (nat_lt 0 d) _ e in
-      let y = and_parts (is_place d n) _ x.1 in
-      record { live = ltb-true 0 d x.0; at = y.0; is = whole_of cov st (first d n) (size d n) y.1 }
+  out_of n e = record { live = grind (arith, nat_tests); at = grind (arith, nat_tests); is = whole_of cov st (first d n) (size d n) (grind (arith, nat_tests)) }
 
   pub of_out : (n : ℕ) → Out d cov st n → map_out d cov st n ≡ true
-  of_out n o = and_from _ _ (lt-ltb 0 d o.live) (and_from _ _ o.at (of_whole cov st (first d n) (size d n) o.is))
+  of_out n o = let live = o.live in let at = o.at in let is = of_whole cov st (first d n) (size d n) o.is in grind (arith, nat_tests)
 
   -- a place out lies in no other
   never : (n k : ℕ) → Out d cov st n → Out d cov st k → lies n k ≡ true → (n ≢ k) → ⊥

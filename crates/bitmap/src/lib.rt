@@ -1,23 +1,15 @@
 // A space whose places out are marked in two shares of lent words.
 #![tactic(auto)]
 
-ghost use Rattle.std.specs.Prelude.{◌≡◌, ℕ, ◌+◌, ◌-◌, ◌*◌, ◌/◌, ◌^◌, ◌<◌, ◌≤◌, max, true, false, not, ◌&&◌, ◌++◌, length, take, drop, replicate, if◌then◌else◌, MatchOption, nat_lt, slice_index};
-ghost use Rattle.space.specs.Places.{is_place, size};
+ghost use Rattle.std.specs.Prelude.{◌≡◌, ℕ, ◌+◌, ◌*◌, ◌^◌, ◌<◌, ◌≤◌, true, false, not, ◌&&◌, ◌++◌, length, take, drop, replicate, if◌then◌else◌, MatchOption, slice_index};
 ghost use Rattle.space.specs.Meaning.{Free, blocked, is_open, is_busy, after_take, after_give, fresh, shut};
-ghost use Rattle.bitmap.specs.Map.{share, room, first, marked, starts, map_out, map_meaning, Tidy, Sets, Clears, drawn};
+ghost use Rattle.bitmap.specs.Map.{has, Spans, share, room, marked, starts, map_meaning, Tidy, Marks, drawn};
 ghost use Rattle.bitmap.specs.Whole.{map_sound};
 
-use bits::{bit_at, clear_run, first_clear, first_set, set_run, wipe};
+use bits::{bit_at, fill_run, first, wipe};
 use space::Space;
-use space::places::depth_of;
-
-// 2 to the power of k.
-fn power(k: usize) -> usize
-    requires { k ≤ 13 }
-    ensures { (result ≡ 2 ^ k) × (result ≤ 8192) }
-{
-    1 << k
-}
+use space::places::places_at;
+use std::ops::Range;
 
 // How many words a share has.
 fn share_of(d: usize) -> usize
@@ -25,118 +17,22 @@ fn share_of(d: usize) -> usize
     ensures value { result ≡ share d }
     ensures bound { (2 ^ d ≤ 64 * result) × (result ≤ 64) }
 {
-    (power(d) / 64).max(1)
+    ((1 << d) / 64).max(1)
 }
 
-// The first unit of n, and the unit behind its last.
-fn run_of(d: usize, n: usize) -> (usize, usize)
-    requires { (d ≤ 12) × (is_place d n ≡ true) }
-    ensures from { result.0 ≡ first d n }
-    ensures to { result.1 ≡ first d n + size d n }
-    ensures bound { (result.0 < result.1) × ((result.1 ≤ 2 ^ d) × (2 ^ d ≤ 4096)) }
-{
-    let s = power(d - depth_of(n));
-    let a = n * s - power(d);
-    (a, a + s)
-}
-
-// Whether no place out has units both before unit e and at it.
-fn parts_at(words: &[u64], d: usize, e: usize) -> bool
-    requires { d ≤ 12 }
-    ensures { result ≡ not (marked d words.now e && not (starts d words.now e)) }
-{
-    let b = 64 * share_of(d);
-    if e >= b || !bit_at(words, e) {
-        return true;
-    }
-    bit_at(words, b + e)
-}
-
-// Whether n is out.
-fn is_out(words: &[u64], d: usize, n: usize) -> bool
-    requires { (0 < d) × ((d ≤ 12) × (is_place d n ≡ true)) }
-    ensures { result ≡ map_out d (marked d words.now) (starts d words.now) n }
-{
-    let (a, e) = run_of(d, n);
-    let b = 64 * share_of(d);
-    if !bit_at(words, b + a) {
-        return false;
-    }
-    if first_clear(words, a, e) < e {
-        return false;
-    }
-    if first_set(words, b + a + 1, b + e) < b + e {
-        return false;
-    }
-    parts_at(words, d, e)
-}
-
-// Whether n overlaps no place out.
-fn is_free(words: &[u64], d: usize, n: usize) -> bool
-    requires { (d ≤ 12) × ((is_place d n ≡ true) × (Tidy d words.now)) }
-    ensures { result ≡ not (blocked (map_meaning d words.now) n) }
-{
-    let (a, e) = run_of(d, n);
-    first_set(words, a, e) == e
-}
-
-// Whether a place out lies in n: one starts there, and n is not part of a larger one.
-fn is_busy(words: &[u64], d: usize, n: usize) -> bool
-    requires { (d ≤ 12) × ((is_place d n ≡ true) × (Tidy d words.now)) }
-    ensures { result ≡ is_busy (map_meaning d words.now) n }
-{
-    let (a, e) = run_of(d, n);
-    let b = 64 * share_of(d);
-    if first_set(words, b + a, b + e) == b + e {
-        return false;
-    }
-    parts_at(words, d, e)
-}
-
-// Marks the units of n, and its first as a start.
-fn mark(words: &mut [u64], d: usize, n: usize)
-    requires { (d ≤ 12) × ((is_place d n ≡ true) × (2 * share d ≤ length words.old)) }
-    ensures bits { Sets d n words.old words.new }
+// Marks units in the words of a map of depth d, and the first of them as a start, or clears both.
+fn mark<const OUT: bool>(words: &mut [u64], d: usize, units: Range<usize>)
+    requires shallow { d ≤ 12 }
+    requires room { 2 * share d ≤ length words.old }
+    requires some { units.start < units.end }
+    requires inside { units.end ≤ 2 ^ d }
+    ensures bits { Marks d units.start units.end OUT words.old words.new }
     ensures beyond { (k : ℕ) → 2 * share d ≤ k → slice_index words.new k ≡ slice_index words.old k }
 {
-    let (a, e) = run_of(d, n);
-    let b = 64 * share_of(d);
-    set_run(words, a, e);
-    set_run(words, b + a, b + a + 1);
-}
-
-// Clears what `mark` sets.
-fn unmark(words: &mut [u64], d: usize, n: usize)
-    requires { (d ≤ 12) × (is_place d n ≡ true) }
-    ensures bits { Clears d n words.old words.new }
-    ensures beyond { (k : ℕ) → 2 * share d ≤ k → slice_index words.new k ≡ slice_index words.old k }
-{
-    let (a, e) = run_of(d, n);
-    let b = 64 * share_of(d);
-    clear_run(words, a, e);
-    clear_run(words, b + a, b + a + 1);
-}
-
-// The first place of depth d from k to before e that overlaps no place out. Behind a marked unit it goes on at
-// the first place that begins where the marked units end.
-fn first_free(words: &[u64], depth: usize, d: usize, k: usize, e: usize) -> Option<usize>
-    requires range { (depth ≤ 12) × ((d ≤ depth) × ((2 ^ d ≤ k) × (e ≤ 2 ^ (d + 1)))) }
-    requires tidy { Tidy depth words.now }
-    ensures { MatchOption result ((j : ℕ) → k ≤ j → j < e → blocked (map_meaning depth words.now) j ≡ true) (Free (map_meaning depth words.now) k e) }
-{
-    let s = power(depth - d);
-    let top = power(depth);
-    let mut j = k;
-    while j < e {
-        let a = j * s - top;
-        let c = first_set(words, a, a + s);
-        if c == a + s {
-            return Some(j);
-        }
-        let z = first_clear(words, c, top);
-        j = (top + z).div_ceil(s);
-    }
-    None
+    let Range { start, end } = units;
+    let share = 64 * share_of(d);
+    fill_run::<OUT>(words, start, end);
+    fill_run::<OUT>(words, share + start, share + start + 1);
 }
 
 // All of the words, of which each is below 2^64: the proof knows that of a slice that is handed to a call.
@@ -167,7 +63,7 @@ impl<'a> Bitmap<'a> {
         ensures memory { result.words.now ≡ (if room depth (length words.old) then replicate (2 * share depth) 0 ++ drop (2 * share depth) words.old else words.old) }
         ensures named { result.words.ghost_name ≡ words.entry.ghost_name }
     {
-        if depth < 1 || depth > 12 {
+        if !(1..=12).contains(&depth) {
             return Bitmap { depth: 0, words };
         }
         let n = 2 * share_of(depth);
@@ -186,11 +82,64 @@ impl<'a> Bitmap<'a> {
         numbers(self.words)
     }
 
-    // Whether the space is not shut and n is a place of it.
-    fn has(&self, n: usize) -> bool
-        ensures { result ≡ (nat_lt 0 self.now.depth && is_place self.now.depth n) }
+    // The units of n, where the space is not shut and n is a place of it.
+    fn units(&self, n: usize) -> Option<Range<usize>>
+        ensures { MatchOption result (has self.now.depth n ≡ false)
+            (λ r. (has self.now.depth n ≡ true) × Spans self.now.depth n r.start r.end) }
     {
-        0 < self.depth && 0 < n && n < power(self.depth + 1)
+        if self.depth == 0 {
+            return None;
+        }
+        let places = places_at(n, self.depth)?;
+        let top = 1 << self.depth;
+        Some(places.start - top..places.end - top)
+    }
+
+    // Whether n is out: its units are a start, all marked, with no further start, and behind them stands no mark
+    // without a start.
+    fn is_out(&self, n: usize) -> bool
+        ensures { result ≡ (map_meaning self.now.depth self.now.words.now).out n }
+    {
+        let Some(Range { start, end }) = self.units(n) else {
+            return false;
+        };
+        let share = 64 * share_of(self.depth);
+        bit_at(self.words, share + start)
+            && first::<false>(self.words, start, end) == end
+            && first::<true>(self.words, share + start + 1, share + end) == share + end
+            && self.parts_at(end)
+    }
+
+    // Whether no place out has units both before unit e and at it.
+    fn parts_at(&self, e: usize) -> bool
+        ensures { result ≡ not (marked self.now.depth self.now.words.now e && not (starts self.now.depth self.now.words.now e)) }
+    {
+        let share = 64 * share_of(self.depth);
+        e >= share || !bit_at(self.words, e) || bit_at(self.words, share + e)
+    }
+
+    // The first place of depth d, from `from` to before `to`, that overlaps no place out. Behind a marked unit it
+    // goes on at the first place that begins where the marked units end.
+    fn first_free(&self, d: usize, from: usize, to: usize) -> Option<usize>
+        requires live { 0 < self.now.depth }
+        requires deep { d ≤ self.now.depth }
+        requires from { 2 ^ d ≤ from }
+        requires to { to ≤ 2 ^ (d + 1) }
+        ensures { MatchOption result ((k : ℕ) → from ≤ k → k < to → blocked (map_meaning self.now.depth self.now.words.now) k ≡ true) (Free (map_meaning self.now.depth self.now.words.now) from to) }
+    {
+        let size = 1 << (self.depth - d);
+        let top = 1 << self.depth;
+        let mut n = from;
+        while n < to {
+            let start = n * size - top;
+            let marked = first::<true>(self.words, start, start + size);
+            if marked == start + size {
+                return Some(n);
+            }
+            let clear = first::<false>(self.words, marked, top);
+            n = (top + clear).div_ceil(size);
+        }
+        None
     }
 }
 
@@ -204,28 +153,31 @@ impl<'a> Space for Bitmap<'a> {
     }
 
     fn open(&self, n: usize) -> bool {
-        self.has(n) && is_free(self.words, self.depth, n)
+        let Some(Range { start, end }) = self.units(n) else {
+            return false;
+        };
+        first::<true>(self.words, start, end) == end
     }
 
     fn out(&self, n: usize) -> bool {
-        self.has(n) && is_out(self.words, self.depth, n)
+        self.is_out(n)
     }
 
+    // A place out starts in w, and w is no part of a larger one.
     fn busy(&self, w: usize) -> bool {
-        self.has(w) && is_busy(self.words, self.depth, w)
+        let Some(Range { start, end }) = self.units(w) else {
+            return false;
+        };
+        let share = 64 * share_of(self.depth);
+        first::<true>(self.words, share + start, share + end) < share + end && self.parts_at(end)
     }
 
-    // The places of depth d in w are w * s and the s - 1 after it.
     fn seek(&self, w: usize, d: usize, f: usize) -> Option<usize> {
-        if !self.has(w) {
+        if self.depth == 0 || d > self.depth {
             return None;
         }
-        let up = depth_of(w);
-        if d < up || d > self.depth {
-            return None;
-        }
-        let s = power(d - up);
-        first_free(self.words, self.depth, d, f.max(w * s), w * s + s)
+        let places = places_at(w, d)?;
+        self.first_free(d, places.start.max(f), places.end)
     }
 
     fn take(&mut self, n: usize) -> bool
@@ -235,14 +187,13 @@ impl<'a> Space for Bitmap<'a> {
         ensures named { self.new.words.ghost_name ≡ self.old.words.ghost_name }
         ensures beyond { (k : ℕ) → 2 * share self.old.depth ≤ k → slice_index self.new.words.now k ≡ slice_index self.old.words.now k }
     {
-        if !<Bitmap<'_> as Space>::open(self, n) {
-            return false;
+        match self.units(n) {
+            Some(units) if self.open(n) => {
+                mark::<true>(self.words, self.depth, units);
+                true
+            }
+            _ => false,
         }
-        let d = self.depth;
-        let words = std::mem::replace(&mut self.words, &mut []);
-        mark(words, d, n);
-        self.words = words;
-        true
     }
 
     fn give(&mut self, n: usize) -> bool
@@ -252,13 +203,12 @@ impl<'a> Space for Bitmap<'a> {
         ensures named { self.new.words.ghost_name ≡ self.old.words.ghost_name }
         ensures beyond { (k : ℕ) → 2 * share self.old.depth ≤ k → slice_index self.new.words.now k ≡ slice_index self.old.words.now k }
     {
-        if !<Bitmap<'_> as Space>::out(self, n) {
-            return false;
+        match self.units(n) {
+            Some(units) if self.out(n) => {
+                mark::<false>(self.words, self.depth, units);
+                true
+            }
+            _ => false,
         }
-        let d = self.depth;
-        let words = std::mem::replace(&mut self.words, &mut []);
-        unmark(words, d, n);
-        self.words = words;
-        true
     }
 }

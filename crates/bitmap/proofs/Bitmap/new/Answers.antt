@@ -1,32 +1,25 @@
-use Rattle.std.proofs.Common.{◌≡◌, ◌*◌, min, ◌++◌, length, get_or, drop, replicate, sym, refl, ap, ◌∙◌, arith}
+use Rattle.std.proofs.Common.{◌≡◌, length, true, sym, ◌∙◌, arith, rules, ◌≤◌}
 use Rattle.std.proofs.lemmas.Bool.{cond-true}
-use Rattle.bitmap.specs.Map.{share}
-use Rattle.bitmap.proofs.Words.{clear_front, tidy_clear, fresh_clear, room-true}
+use Rattle.std.proofs.lemmas.Bool.Decides.{nat_tests}
+use Rattle.bitmap.specs.Map.{room}
+use Rattle.bitmap.proofs.Words.{wiped, tidy_clear, fresh_clear}
 use Rattle.bitmap.proofs.Bitmap.new.Goals as goal
 
 pub invariant_of-result-2 : goal.invariant_of-result-2
 invariant_of-result-2 c =
     let d = c.args.depth in
-    let ws = c.args.words.now in
-    let vs = c.wipe.new.words in
-    let m : min (2 * c.share_of-n.result) (length ws) ≡ 2 * share d = omega arith in
-    let e : vs ≡ replicate (2 * share d) 0 ++ drop (2 * share d) ws = c.wipe.ensures ∙ ap (λ x. replicate x 0 ++ drop x ws) m in
+    let low : 1 ≤ d = search rules in
+    let high : d ≤ 12 = search rules in
     record {
       shallow = omega arith;
       sized = λ _. omega (arith, c.wipe.auto.words);
-      tidy = λ _. tidy_clear d vs (λ k lt. ap (λ x. get_or x k 0) e ∙ clear_front (2 * share d) ws k lt);
+      tidy = λ _. tidy_clear d c.wipe.new.words (wiped d _ c.args.words.now c.wipe.new.words (omega arith) c.wipe.ensures);
     }
 
-pub returns : goal.returns
-returns c =
+pub returns-clause-meaning : goal.returns-clause-meaning
+returns-clause-meaning c =
     let d = c.args.depth in
-    let ws = c.args.words.now in
-    let vs = c.wipe.new.words in
-    let m : min (2 * c.share_of-n.result) (length ws) ≡ 2 * share d = omega arith in
-    let e : vs ≡ replicate (2 * share d) 0 ++ drop (2 * share d) ws = c.wipe.ensures ∙ ap (λ x. replicate x 0 ++ drop x ws) m in
-    let roomy = room-true d (length ws) (omega arith) (omega arith) (omega arith) in
-    record {
-      meaning = fresh_clear d vs (λ k lt. ap (λ x. get_or x k 0) e ∙ clear_front (2 * share d) ws k lt) (omega arith) ∙ sym (cond-true _ _ _ roomy);
-      memory = e ∙ sym (cond-true _ _ _ roomy);
-      named = refl;
-    }
+    let low : 1 ≤ d = search rules in
+    let high : d ≤ 12 = search rules in
+    let roomy : room d (length c.args.words.now) ≡ true = grind (arith, nat_tests) in
+    fresh_clear d c.wipe.new.words (wiped d _ c.args.words.now c.wipe.new.words (omega arith) c.wipe.ensures) (omega arith) ∙ sym (cond-true _ _ _ roomy)
