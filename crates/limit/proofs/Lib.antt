@@ -1,4 +1,3 @@
-pub mod Limited
+pub mod Searching
 pub mod Holding
 pub mod Walking
-pub mod Rationing

@@ -1,11 +1,15 @@
 -- What a limit means: the space below it, whose rule says yes only where a test of the limit's own does too.
 -- Depth and set are those of the space below.
-use Rattle.std.specs.Prelude.{ℕ, ◌+◌, Bool, not, ◌&&◌, nat_le}
-use Rattle.space.specs.Places.{overlap, size, units}
+use Rattle.std.specs.Prelude.{ℕ, ◌+◌, Bool, not, ◌&&◌, ◌==◌, nat_le}
+use Rattle.space.specs.Places.{overlap, size, units, depth_of}
 use Rattle.space.specs.Meaning.{Meaning, Sound}
 
 abbrev pub limited : Meaning → ((ℕ → Bool) → ℕ → Bool) → Meaning
 limited m test = record { depth = m.depth; out = m.out; rule = λ set n. m.rule set n && test set n }
+
+-- k may follow n in a search: it is at least n, of n's depth, and passes the test
+abbrev pub may_follow : (ℕ → Bool) → ℕ → ℕ → Bool
+may_follow test n k = nat_le n k && (depth_of k == depth_of n && test k)
 
 -- a quota of q units: those of the set and those of the place are together at most q
 abbrev pub within_quota : Meaning → ℕ → Meaning

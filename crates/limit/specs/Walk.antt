@@ -1,7 +1,12 @@
--- The units of a set, counted by a walk down the tree.
-use Rattle.std.specs.Prelude.{ℕ, zero, suc, ◌+◌, ◌*◌, ◌^◌, Bool, cond}
+-- The sum of a function over the places that lie in one, by a walk down the tree.
+use Rattle.std.specs.Prelude.{ℕ, zero, suc, ◌+◌, ◌*◌, Bool, cond, ◌&&◌}
+use Rattle.space.specs.Places.{is_place, size}
 
--- the units of the places of a set that lie in n, a place of 2 ^ h units
-unfoldable pub units_in : ℕ → (ℕ → Bool) → ℕ → ℕ
-units_in zero set n = cond (set n) 1 0
-units_in (suc h) set n = cond (set n) (2 ^ suc h) 0 + (units_in h set (2 * n) + units_in h set (2 * n + 1))
+-- the sum over n and the places that lie in n, as far as h levels down
+unfoldable pub sum_under : ℕ → (ℕ → ℕ) → ℕ → ℕ
+sum_under zero f n = f n
+sum_under (suc h) f n = f n + (sum_under h f (2 * n) + sum_under h f (2 * n + 1))
+
+-- the units that place n adds to those of a set, in a tree of depth d
+abbrev pub units_at : ℕ → (ℕ → Bool) → ℕ → ℕ
+units_at d set n = cond (is_place d n && set n) (size d n) 0

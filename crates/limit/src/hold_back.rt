@@ -1,82 +1,51 @@
-// A hold-back: one place of a space, and whatever overlaps it, is never granted.
-ghost use Rattle.std.specs.Prelude.{◌≡◌, ℕ, ◌^◌, ◌<◌, ◌≤◌, true, not};
-ghost use Rattle.space.specs.Places.{overlap};
-ghost use Rattle.limit.specs.Limits.{held_back, limited_sound};
+// A hold-back: a rule that never grants one place, nor whatever overlaps it.
+ghost use Rattle.std.specs.Prelude.{◌≡◌, ◌≢◌, ◌+◌, not, MatchOption};
+ghost use Rattle.space.specs.Places.{overlap, depth_of};
+ghost use Rattle.space.specs.Meaning.{Meaning};
+ghost use Rattle.limit.specs.Limits.{limited, held_back};
 
+use crate::rule::Rule;
 use space::Space;
-use space::places::{halvings, overlaps};
+use space::places::{depth_of, overlaps};
 
 // Holds back nothing where `held` is 0, which is no place.
 #[derive(Drop)]
-pub struct HoldBack<S> {
-    below: S,
+pub struct HoldBack {
     held: u16,
 }
 
-impl<S> HoldBack<S> {
-    pub fn new(below: S, held: u16) -> HoldBack<S>
-        ensures below { result.below ≡ below }
+impl HoldBack {
+    pub fn new(held: u16) -> HoldBack
         ensures held { result.held ≡ held }
+        ensures rule { (m : Meaning) → limited m (⟦<HoldBack as Rule>⟧.test result m.depth) ≡ held_back m held }
     {
-        HoldBack { below, held }
+        HoldBack { held }
     }
 }
 
-// The first place of n's depth behind all that overlap h, where n does.
-fn past(n: usize, h: usize) -> usize
-    requires overlapping { overlap n h ≡ true }
-    requires low { n < 2 ^ 13 }
-    ensures further { n < result }
-    ensures between { (j : ℕ) → n ≤ j → j < result → overlap j h ≡ true }
+// The place after n, where it is of n's depth.
+fn beside(n: usize) -> Option<usize>
+    ensures { MatchOption result (depth_of (n + 1) ≢ depth_of n) (λ next. (next ≡ n + 1) × (depth_of next ≡ depth_of n)) }
 {
-    match halvings(n, h) {
-        Some(k) => (h + 1) << k,
-        None => n + 1,
-    }
+    let next = n.checked_add(1)?;
+    (depth_of(next) == depth_of(n)).then_some(next)
 }
 
-impl<S: Space> Space for HoldBack<S> {
-    ghost meaning = { λ s. held_back (S.Space.meaning s.below) s.held };
+impl Rule for HoldBack {
+    ghost test = { λ s depth set n. not (overlap n s.held) };
 
-    ghost sound = { λ s. limited_sound (S.Space.meaning s.below) (λ set n. not (overlap n s.held)) (S.Space.sound s.below) };
-
-    fn depth(&self) -> usize {
-        self.below.depth()
+    fn allows<S: Space>(&self, _space: &S, n: usize) -> bool {
+        !overlaps(n, usize::from(self.held))
     }
 
-    fn open(&self, n: usize) -> bool {
-        !overlaps(n, self.held as usize) && self.below.open(n)
-    }
-
-    fn out(&self, n: usize) -> bool {
-        self.below.out(n)
-    }
-
-    fn busy(&self, w: usize) -> bool {
-        self.below.busy(w)
-    }
-
-    // Where the first find is held back, the search goes on behind all that overlap the held place.
-    fn seek(&self, w: usize, d: usize, f: usize) -> Option<usize> {
-        let held = self.held as usize;
-        let mut from = f;
-        while let Some(n) = self.below.seek(w, d, from) {
-            if !overlaps(n, held) {
-                return Some(n);
-            }
-            from = past(n, held);
+    // `top` is n, or the held place where n lies in it: of n's depth, what lies in `top` is held back as n is, and what
+    // lies beside it is not.
+    fn first<S: Space>(&self, space: &S, n: usize) -> Option<usize> {
+        if self.allows(space, n) {
+            return Some(n);
         }
-        None
-    }
-
-    fn take(&mut self, n: usize) -> bool {
-        if overlaps(n, self.held as usize) {
-            return false;
-        }
-        self.below.take(n)
-    }
-
-    fn give(&mut self, n: usize) -> bool {
-        self.below.give(n)
+        let halvings = depth_of(n).saturating_sub(depth_of(usize::from(self.held)));
+        let top = n >> halvings;
+        Some(beside(top)? << halvings)
     }
 }

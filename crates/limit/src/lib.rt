@@ -2,5 +2,7 @@
 #![tactic(auto)]
 
 pub mod hold_back;
+pub mod limited;
 pub mod pile;
 pub mod quota;
+pub mod rule;

@@ -1,21 +1,38 @@
 // Piles of limits, in either order, over any space.
 ghost use Rattle.std.specs.Prelude.{◌≡◌};
-ghost use Rattle.limit.specs.Limits.{held_back, within_quota};
+ghost use Rattle.limit.specs.Limits.{limited, held_back, within_quota};
 
 use crate::hold_back::HoldBack;
+use crate::limited::Limited;
 use crate::quota::Quota;
+use crate::rule::Rule;
 use space::Space;
 
-// A quota of `most` units over a hold-back of `held`.
-pub fn quota_over_hold_back<S: Space>(space: S, most: u16, held: u16) -> Quota<HoldBack<S>>
-    ensures { within_quota (held_back (S.Space.meaning result.below.below) result.below.held) result.most ≡ within_quota (held_back (S.Space.meaning space) held) most }
+// A rule over a rule, over a space.
+pub fn pile<S: Space, A: Rule, B: Rule>(space: S, inner: A, outer: B) -> Limited<Limited<S, A>, B>
+    ensures { ⟦<Limited<Limited<S, A>, B> as Space>⟧.meaning result ≡ limited (limited (S.meaning space) (A.test inner (S.meaning space).depth)) (B.test outer (S.meaning space).depth) }
 {
-    Quota::new(HoldBack::new(space, held), most)
+    Limited::new(Limited::new(space, inner), outer)
+}
+
+// A quota of `most` units over a hold-back of `held`.
+pub fn quota_over_hold_back<S: Space>(
+    space: S,
+    most: u16,
+    held: u16,
+) -> Limited<Limited<S, HoldBack>, Quota>
+    ensures { ⟦<Limited<Limited<S, HoldBack>, Quota> as Space>⟧.meaning result ≡ within_quota (held_back (S.meaning space) held) most }
+{
+    pile(space, HoldBack::new(held), Quota::new(most))
 }
 
 // A hold-back of `held` over a quota of `most` units.
-pub fn hold_back_over_quota<S: Space>(space: S, most: u16, held: u16) -> HoldBack<Quota<S>>
-    ensures { held_back (within_quota (S.Space.meaning result.below.below) result.below.most) result.held ≡ held_back (within_quota (S.Space.meaning space) most) held }
+pub fn hold_back_over_quota<S: Space>(
+    space: S,
+    most: u16,
+    held: u16,
+) -> Limited<Limited<S, Quota>, HoldBack>
+    ensures { ⟦<Limited<Limited<S, Quota>, HoldBack> as Space>⟧.meaning result ≡ held_back (within_quota (S.meaning space) most) held }
 {
-    HoldBack::new(Quota::new(space, most), held)
+    pile(space, Quota::new(most), HoldBack::new(held))
 }

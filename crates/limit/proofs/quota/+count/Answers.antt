@@ -1,44 +1,45 @@
 use Rattle.std.proofs.Common.{◌≡◌, sym, ap, ◌∙◌, arith}
 use Rattle.std.proofs.lemmas.Nat.{one_shl}
-use Rattle.limit.specs.Walk.{units_in}
-use Rattle.limit.proofs.Walking.{units_whole, units_idle, units_step, units_leaf, pow_half, child_fits}
+use Rattle.limit.specs.Walk.{sum_under, units_at}
+use Rattle.limit.proofs.Walking.{units_whole, units_idle, under_step, none_at, pow_half, children_fit}
 use Rattle.limit.proofs.quota.+count.Goals as goal
 use Rattle.limit.proofs.quota.+count.Goals.{then-h-eq0-via-then-h-eq0, then-h-eq0-via-else-h-eq0+then-not-busy}
 
 pub returns-then-out : goal.returns-then-out
 returns-then-out g t c =
-    let s = c.args.space.now in
-    let e = one_shl c.args.h 64 (omega arith) in
-    let u = units_whole (g.S.Space.meaning s) (g.S.Space.sound s) c.args.h c.args.n (omega arith) (sym c.if-out.ensures) in
-    record { value = e ∙ sym u; bound = omega (arith, e) }
+    let m = g.S.Space.meaning c.args.space.now in
+    let s = g.met.S.Space.sound c.args.space.now in
+    let e = one_shl c.args.h 64 (omega (arith, s.shallow)) in
+    record { value = omega (arith, e, units_whole m s c.args.h c.args.n (omega arith) (sym c.if-out.ensures) c.requires.height); bound = omega (arith, e) }
 
 pub returns-then-h-eq0 : goal.returns-then-h-eq0
+unfolding sum_under
 returns-then-h-eq0 g t c =
-    let s = c.args.space.now in
-    let out = (g.S.Space.meaning s).out in
-    let zero-units : units_in c.args.h out c.args.n ≡ 0 =
+    let m = g.S.Space.meaning c.args.space.now in
+    let f = units_at m.depth m.out in
+    let none : sum_under c.args.h f c.args.n ≡ 0 =
     elim c.then-h-eq0.branch [
-      | then-h-eq0-via-then-h-eq0 w ↦ ap (λ h. units_in h out c.args.n) w.if-h-eq0.true ∙ units_leaf out c.args.n (sym c.if-out.ensures)
-      | then-h-eq0-via-else-h-eq0+then-not-busy w ↦ units_idle (g.S.Space.meaning s) (g.S.Space.sound s) c.args.h c.args.n (omega arith) (sym w.if-not-busy.ensures)
+      | then-h-eq0-via-then-h-eq0 w ↦ ap (λ h. sum_under h f c.args.n) w.if-h-eq0.true ∙ none_at m.depth m.out c.args.n (sym c.if-out.ensures)
+      | then-h-eq0-via-else-h-eq0+then-not-busy w ↦ units_idle m (g.met.S.Space.sound c.args.space.now) c.args.h c.args.n (omega arith) (sym w.if-not-busy.ensures)
     ]
     in
-    record { value = sym zero-units; bound = omega arith }
+    record { value = sym none; bound = omega arith }
 
 pub count-requires : goal.count-requires
 count-requires g t c κs within =
-    let f = child_fits c.args.n c.args.h (omega arith) c.requires.fits in
-    (omega (arith, c.decreases), (within, (omega arith, (omega arith, (omega arith, f.0)))))
+    let f = children_fit c.args.n (g.S.Space.meaning c.args.space.now).depth c.args.h (omega arith) (omega arith) c.requires.height (g.met.S.Space.sound c.args.space.now).shallow in
+    (omega (arith, c.decreases), (within, (omega arith, (omega arith, omega (arith, f.1)))))
 
 pub count-requires-2 : goal.count-requires-2
 count-requires-2 g t c κs within =
-    let f = child_fits c.args.n c.args.h (omega arith) c.requires.fits in
-    (omega (arith, c.decreases), (within, (omega arith, (omega arith, (omega arith, omega (arith, f.0, f.1))))))
+    let f = children_fit c.args.n (g.S.Space.meaning c.args.space.now).depth c.args.h (omega arith) (omega arith) c.requires.height (g.met.S.Space.sound c.args.space.now).shallow in
+    (omega (arith, c.decreases), (within, (omega arith, (omega (arith, f.0), omega (arith, f.2)))))
 
 pub returns : goal.returns
 returns g t c =
-    let s = c.args.space.now in
-    let out = (g.S.Space.meaning s).out in
+    let m = g.S.Space.meaning c.args.space.now in
+    let f = units_at m.depth m.out in
+    let step = under_step c.args.h f c.args.n (omega arith) in
+    let none = none_at m.depth m.out c.args.n (sym c.if-out.ensures) in
     let p = pow_half c.args.h (omega arith) in
-    let idle = sym c.if-out.ensures in
-    let step = rw idle at (units_step c.args.h out c.args.n (omega arith)) in
-    record { value = omega (arith, step, c.count.ensures.value, c.count-2.ensures.value); bound = omega (arith, p, c.count.ensures.bound, c.count-2.ensures.bound) }
+    record { value = omega (arith, step, none, c.count.ensures.value, c.count-2.ensures.value); bound = omega (arith, p, c.count.ensures.bound, c.count-2.ensures.bound) }
