@@ -1,5 +1,5 @@
 -- What each cause of refusal is reported as.
-use Rattle.std.specs.Prelude.{ℕ}
+use Rattle.std.specs.Prelude.{ℕ, List, ◌++◌, codes, decimal, encode_utf8}
 use Rattle.fault.specs.declared.Cause.{Cause}
 use Rattle.fault.specs.declared.Cause.TheVariants.{Malformed, LengthAboveWidth, HostBitSet, MemoryTooShort}
 use Rattle.fault.specs.declared.Layer.{Layer}
@@ -33,3 +33,12 @@ alone cause = record { cause = cause; column = 1 }
 -- the same fault at another column
 abbrev pub moved : ℕ → Fault → Fault
 moved column f = record { cause = f.cause; column = column }
+
+-- a fault as it is printed: LAYER NUMBER COLUMN
+abbrev pub shown : Fault → List ℕ
+shown f =
+    encode_utf8 (letter (layer f.cause))
+    ++ (codes " "
+    ++ (decimal (number f.cause)
+    ++ (codes " "
+    ++ decimal f.column)))

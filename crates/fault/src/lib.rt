@@ -1,16 +1,18 @@
 // Why anything is refused: the closed list of causes, and the fault that carries one upward, whole.
 #![tactic(auto)]
 
-ghost use Rattle.std.specs.Prelude.{◌≡◌};
-ghost use Rattle.fault.specs.Causes.{number, layer, letter, alone, moved};
+ghost use Rattle.std.specs.Prelude.{◌≡◌, Some};
+ghost use Rattle.fault.specs.Causes.{number, layer, letter, alone, moved, shown};
 
-// A reason of refusal. docs/RULES.md has the table of causes with their numbers.
+use std::fmt;
+
+// A reason of refusal, with the number by which it is reported. docs/RULES.md has the table of causes.
 #[derive(Clone, Copy, PartialEq, Eq, Debug)]
 pub enum Cause {
-    Malformed,
-    LengthAboveWidth,
-    HostBitSet,
-    MemoryTooShort,
+    Malformed = 1,
+    LengthAboveWidth = 2,
+    HostBitSet = 3,
+    MemoryTooShort = 13,
 }
 
 // The part of the product that refuses: texts, prefixes, or the plan and its memory.
@@ -26,12 +28,7 @@ impl Cause {
     pub fn number(self) -> u8
         ensures { result ≡ number self }
     {
-        match self {
-            Cause::Malformed => 1,
-            Cause::LengthAboveWidth => 2,
-            Cause::HostBitSet => 3,
-            Cause::MemoryTooShort => 13,
-        }
+        self as u8
     }
 
     // The layer that refuses for this cause.
@@ -79,9 +76,16 @@ impl Fault {
     pub fn at(self, column: usize) -> Fault
         ensures { result ≡ moved column self }
     {
-        Fault {
-            cause: self.cause,
-            column,
-        }
+        Fault { column, ..self }
+    }
+}
+
+// A fault as a report prints it: the letter of its layer, its number and its column, one space apart.
+impl fmt::Display for Fault {
+    ghost output = { λ f. Some (shown f) };
+
+    fn fmt<W: fmt::Write>(&self, f: &mut fmt::Formatter<W>) -> fmt::Result {
+        let Fault { cause, column } = *self;
+        write!(f, "{} {} {column}", cause.layer().letter(), cause.number())
     }
 }
