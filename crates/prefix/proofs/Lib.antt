@@ -1,2 +1,4 @@
 pub mod Making
 pub mod Trees
+pub mod Shifting
+pub mod Groups

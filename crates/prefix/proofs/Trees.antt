@@ -1,5 +1,5 @@
 -- The blocks of a tree under a root, at any width: a block of k bits more than the root's r, e bits before the end.
-use Rattle.std.proofs.Common.{◌≡◌, ℕ, ◌+◌, ◌-◌, ◌*◌, ◌/◌, ◌%◌, ◌^◌, ◌<◌, ◌≤◌, true, false, ◌&&◌, eqb, ltb, leb, sym, ap, ◌∙◌, subst, ⊎_elim, mul_assoc, add-mul, arith, pow-add}
+use Rattle.std.proofs.Common.{◌≡◌, ℕ, ◌+◌, ◌-◌, ◌*◌, ◌/◌, ◌%◌, ◌^◌, ◌<◌, ◌≤◌, true, false, ◌&&◌, eqb, ltb, leb, sym, ap, ◌∙◌, subst, ⊎_elim, mul_assoc, add-mul, arith, pow-add, pow_mono}
 use native.Mathlib.Nat.{mul-mod_left}
 use Rattle.std.proofs.lemmas.Nat.{pow_pos, shr_split, shl_below, shr_below, shr_high, mod_low, shl-shr, mul-add-lt, mod_below, mod-pow-add, shl_whole}
 use Rattle.std.proofs.lemmas.Bool.{le-leb, lt-leb, le-ltb, lt-ltb, eq-eqb, leb-true, eqb-true, and_from, and_parts, and_left, and_right, cond-true, cond-false, cases_lt}
@@ -7,7 +7,6 @@ use Rattle.prefix.specs.Bits.{front, middle}
 use Rattle.prefix.specs.Form.{Block}
 use Rattle.prefix.specs.Prefixes.{Valid}
 use Rattle.prefix.specs.Places.{fits, belongs, place, is_place, block_down}
-use Rattle.prefix.specs.Powers.{pow_mono}
 use Rattle.prefix.proofs.Making.{block_same}
 
 pub double : (k : ℕ) → 2 ^ (k + 1) ≡ 2 * 2 ^ k
@@ -15,7 +14,7 @@ double k = pow-add 2 k 1 ∙ omega arith
 
 -- a number's depth in the tree is one number
 pub depth_below : (j k n : ℕ) → 2 ^ j ≤ n → n < 2 ^ (k + 1) → j ≤ k
-depth_below j k n low high = ⊎_elim (λ h. absurd (omega (arith, pow_mono (k + 1) j (omega arith)))) (λ h. h) (cases_lt k j)
+depth_below j k n low high = ⊎_elim (λ h. absurd (omega (arith, pow_mono {i = k + 1} {j = j} (omega arith)))) (λ h. h) (cases_lt k j)
 
 pub depth_one : (j k n : ℕ) → 2 ^ j ≤ n → n < 2 ^ (j + 1) → 2 ^ k ≤ n → n < 2 ^ (k + 1) → j ≡ k
 depth_one j k n jl jh kl kh = omega (arith, depth_below j k n jl kh, depth_below k j n kl jh)
@@ -104,6 +103,10 @@ too_far w root d n h = and_right (fits w root d) _ (and_right (ltb 0 n) _ (le-lt
 pub shifted_two : (d : ℕ) → d ≤ 12 → (2 * 2 ^ d) % 2 ^ 64 ≡ 2 ^ (d + 1)
 shifted_two d h = shl_whole 2 2 d 64 (omega arith) (omega arith) ∙ sym (double d)
 
+-- a place's own depth is at most the tree's
+pub depth_within : (d n k : ℕ) → d ≤ 12 → n < (2 * 2 ^ d) % 2 ^ 64 → 2 ^ k ≤ n → k ≤ d
+depth_within d n k d12 high low = depth_below k d n low (omega (arith, shifted_two d d12))
+
 -- where a prefix belongs, its place is a place of its own depth, and the block there is the prefix
 module _ (w : ℕ) (root b : Block) (d : ℕ) (vr : Valid w root) (vb : Valid w b) (yes : belongs w root d b ≡ true) where
   fit : fits w root d ≡ true
@@ -140,7 +143,7 @@ module _ (w : ℕ) (root b : Block) (d : ℕ) (vr : Valid w root) (vb : Valid w 
 
   pub own_place : is_place w root d (place w root d b) ≡ true
   own_place =
-      let m = pow_mono (b.length - root.length + 1) (d + 1) (omega (arith, shorter)) in
+      let m = pow_mono {i = b.length - root.length + 1} {j = d + 1} (omega (arith, shorter)) in
       and_from _ _ fit (and_from _ _ (lt-ltb 0 _ (omega (arith, own_low, pow_pos (b.length - root.length)))) (lt-ltb _ (2 ^ (d + 1)) (omega (arith, own_high))))
 
   -- the first address: the root's bits, then the path, then zeros

@@ -1,9 +1,8 @@
 -- How the addresses and prefixes of a family are read as numbers.
 use Rattle.std.specs.Prelude.{ℕ}
 
--- the number of address bits; an address as a number; a prefix's first address and its length
+-- an address as a number; a prefix's first address and its length
 pub record Form (A P : Type 0) : Type 0 where
-  pub width : ℕ
   pub number : A → ℕ
   pub first : P → ℕ
   pub length : P → ℕ

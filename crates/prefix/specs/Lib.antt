@@ -4,8 +4,6 @@ pub mod Prefixes
 pub mod Places
 pub mod Groups
 pub mod Table
-pub mod Props
 pub mod Binary
-pub mod Powers
 pub mod Sharing
 pub mod Eights

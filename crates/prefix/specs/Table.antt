@@ -1,5 +1,6 @@
 -- The reserved blocks, which no plan may touch, and what it means to touch one.
-use Rattle.std.specs.Prelude.{ℕ, ◌+◌, ◌-◌, ◌*◌, ◌%◌, ◌^◌, Bool, false, ◌&&◌, ◌||◌, List, [], ◌∷◌, ◌==◌, nat_le}
+use Rattle.std.specs.Prelude.{ℕ, ◌+◌, ◌-◌, ◌*◌, ◌%◌, ◌^◌, Bool, ◌&&◌, List, [], ◌∷◌, ◌==◌, nat_le}
+use Rattle.std.specs.List.{list_any}
 use Rattle.prefix.specs.declared.row.Row.{Row}
 use Rattle.prefix.specs.Form.{Block}
 use Rattle.prefix.specs.Prefixes.{overlaps}
@@ -12,8 +13,7 @@ row_touches w number b row =
 
 -- some row of a table touches b
 abbrev pub touches : {A : Type 0} → ℕ → (A → ℕ) → Block → List (Row A) → Bool
-touches w number b [] = false
-touches w number b (row ∷ rows) = row_touches w number b row || touches w number b rows
+touches w number b = list_any (row_touches w number b)
 
 abbrev quad : ℕ → ℕ → ℕ → ℕ → ℕ → Row ℕ
 quad a b c d l = record { address = ((a * 256 + b) * 256 + c) * 256 + d; length = l }

@@ -8,21 +8,21 @@ use crate::family::Family;
 
 // Whether an address lies in a prefix: each of its bits up to the prefix's length is the prefix's.
 pub fn has_bits_of<F: Family>(p: &F::Prefix, address: F::Address) -> bool
-    ensures { Decides result ((i : ℕ) → i < F.Family.form.length p.now → bit F.Family.form.width (F.Family.form.number address) i ≡ bit F.Family.form.width (F.Family.form.first p.now) i) }
+    ensures { Decides result ((i : ℕ) → i < F.form.length p.now → bit F.WIDTH (F.form.number address) i ≡ bit F.WIDTH (F.form.first p.now) i) }
 {
     F::contains(p, address)
 }
 
 // Whether prefix q lies in prefix p: every address of q is one of p.
 pub fn has_all_of<F: Family>(p: &F::Prefix, q: &F::Prefix) -> bool
-    ensures { Decides result (Within F.Family.form.width (block F.Family.form p.now) (block F.Family.form q.now)) }
+    ensures { Decides result (Within F.WIDTH (block F.form p.now) (block F.form q.now)) }
 {
     F::covers(p, q)
 }
 
 // Whether two prefixes overlap: some address lies in both.
 pub fn has_some_of<F: Family>(p: &F::Prefix, q: &F::Prefix) -> bool
-    ensures { Decides result (Shared F.Family.form.width (block F.Family.form p.now) (block F.Family.form q.now)) }
+    ensures { Decides result (Shared F.WIDTH (block F.form p.now) (block F.form q.now)) }
 {
     F::overlaps(p, q)
 }

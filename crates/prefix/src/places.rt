@@ -7,8 +7,8 @@ use crate::family::Family;
 
 // The prefix at the place of a prefix: the same prefix where it belongs under the root, else the root.
 pub fn at_own_place<F: Family>(root: &F::Prefix, depth: u8, p: &F::Prefix) -> F::Prefix
-    ensures inside { belongs F.Family.form.width (block F.Family.form root.now) depth (block F.Family.form p.now) ≡ true → result ≡ p.now }
-    ensures outside { belongs F.Family.form.width (block F.Family.form root.now) depth (block F.Family.form p.now) ≡ false → result ≡ root.now }
+    ensures inside { belongs F.WIDTH (block F.form root.now) depth (block F.form p.now) ≡ true → result ≡ p.now }
+    ensures outside { belongs F.WIDTH (block F.form root.now) depth (block F.form p.now) ≡ false → result ≡ root.now }
 {
     F::prefix_at(root, depth, F::place(root, depth, p))
 }

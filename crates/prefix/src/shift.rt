@@ -5,19 +5,22 @@ ghost use Rattle.std.specs.Prelude.{◌≡◌, ◌-◌, ◌*◌, ◌/◌, ◌%�
 pub fn upper(n: u128, k: u8) -> u128
     ensures { result ≡ n / 2 ^ k }
 {
-    if k < 128 { n >> k } else { 0 }
+    n.checked_shr(u32::from(k)).unwrap_or(0)
 }
 
 // The last k bits of the number.
 pub fn lower(n: u128, k: u8) -> u128
     ensures { result ≡ n % 2 ^ k }
 {
-    if k < 128 { n & ((1u128 << k) - 1) } else { n }
+    match 1u128.checked_shl(u32::from(k)) {
+        Some(unit) => n & (unit - 1),
+        None => n,
+    }
 }
 
 // The number with k zeros behind it, as far as they fit.
 pub fn raised(n: u128, k: u8) -> u128
     ensures { result ≡ (n * 2 ^ k) % 2 ^ 128 }
 {
-    if k < 128 { n << k } else { 0 }
+    n.checked_shl(u32::from(k)).unwrap_or(0)
 }

@@ -1,27 +1,22 @@
--- A prefix that belongs is the block at its place; any other has place 0, which gives the root.
-use Rattle.std.proofs.Common.{◌≡◌, ◌-◌, true, sym, ◌∙◌, subst, arith}
+-- A prefix that belongs is the block at its place.
+use Rattle.std.proofs.Common.{◌≡◌, ◌-◌, true, arith}
 use Rattle.prefix.specs.Form.{block}
-use Rattle.prefix.specs.Places.{is_place, place, block_down}
-use Rattle.prefix.proofs.Trees.{own_low, own_high, own_place, own_block, no_place, no_zero}
+use Rattle.prefix.specs.Places.{is_place, place}
+use Rattle.prefix.proofs.Trees.{own_low, own_high, own_place, own_block}
 use Rattle.prefix.proofs.places.at_own_place.Goals as goal
 
-pub returns : goal.returns
-returns g c =
-    let f = g.F.Family.form in
-    let root = block f c.args.root.now in
-    let b = block f c.args.p.now in
+pub returns-clause-inside : goal.returns-clause-inside
+returns-clause-inside g c in_tree =
+    let w = g.F.Family.WIDTH in
+    let root = block g.F.Family.form c.args.root.now in
+    let b = block g.F.Family.form c.args.p.now in
     let d = c.args.depth in
     let vr = g.met.F.Family.valid c.args.root.now in
     let vb = g.met.F.Family.valid c.args.p.now in
-    let n : c.place.result ≡ place f.width root d b = c.place.ensures in
-    record {
-      inside = λ yes.
-          let k = b.length - root.length in
-          let there = subst (λ x. block f c.prefix_at.result ≡ block_down f.width root k x) n
-          (c.prefix_at.ensures.inside k
-          (subst (λ x. is_place f.width root d x ≡ true) (sym n) (own_place f.width root b d vr vb yes))
-          (omega (arith, n, own_low f.width root b d vr vb yes))
-          (omega (arith, n, own_high f.width root b d vr vb yes))) in
-          g.met.F.Family.same c.prefix_at.result c.args.p.now (there ∙ own_block f.width root b d vr vb yes);
-      outside = λ no. c.prefix_at.ensures.outside (no_zero f.width root d c.place.result (n ∙ no_place f.width root b d no));
-    }
+    let n : c.place.result ≡ place w root d b = c.place.ensures in
+    let there : is_place w root d c.place.result ≡ true = rw n (own_place w root b d vr vb in_tree) in
+    let low = own_low w root b d vr vb in_tree in
+    let high = own_high w root b d vr vb in_tree in
+    let own = own_block w root b d vr vb in_tree in
+    let down = c.prefix_at.ensures.inside (b.length - root.length) there (omega (arith, n, low)) (omega (arith, n, high)) in
+    g.met.F.Family.same c.prefix_at.result c.args.p.now (cc (down, own, n))

@@ -1,7 +1,8 @@
 -- Raised by 128 bits or more, nothing of a number is left.
-use Rattle.std.proofs.Common.{sym}
-use Rattle.prefix.specs.Powers.{raised_past}
+use Rattle.std.proofs.Common.{arith}
+use Rattle.std.proofs.lemmas.Grind.{common_steps}
+use Rattle.prefix.proofs.Shifting.{shl_or_none}
 use Rattle.prefix.proofs.shift.raised.Goals as goal
 
-pub returns-else-k-lt128 : goal.returns-else-k-lt128
-returns-else-k-lt128 c = sym (raised_past 128 c.args.n c.args.k c.if-k-lt128.false)
+pub returns : goal.returns
+returns c = grind (arith, common_steps, shl_or_none)
