@@ -4,8 +4,8 @@ use native.Mathlib.Nat.{pow-le-pow_right}
 use Rattle.std.specs.Str.Parse.{AllDigits as HexDigits, digits_value}
 use Rattle.std.specs.Char.{is_ascii_hexdigit, digit_char, digit_value}
 use Rattle.std.proofs.lemmas.Int.Digits.{digits_value-lt, digits_value_push, digits_push}
-use Rattle.std.proofs.ByRecursion.{All-get_or, All-take}
-use Rattle.std.proofs.lemmas.List.{length_push, length-take, length-take-le}
+use Rattle.std.proofs.ByRecursion.{All-get_or}
+use Rattle.std.proofs.lemmas.List.{length_push, length-take-le}
 use Rattle.std.proofs.lemmas.List.Sums.{prefix_len-le-length}
 use Rattle.std.proofs.lemmas.Bool.{leb-true, cases_Bool, cases_lt, and_parts}
 use Rattle.std.proofs.lemmas.Bool.Decides.{nat_tests}
@@ -36,26 +36,18 @@ digits_from_passes (c ∷ cs) h = (hex_from_true c h.0, digits_from_passes cs h.
 pub hexes_front : (xs : List ℕ) → HexDigits 16 (take (hexes xs) xs)
 hexes_front xs = digits_from_passes (take (hexes xs) xs) (passes_front is_ascii_hexdigit xs)
 
-pub no_hex : (stop : ℕ) (rest : List ℕ) → is_ascii_hexdigit stop ≡ false → hexes (stop ∷ rest) ≡ 0
-no_hex stop rest e = rw e
-
--- what at most four digits write
+-- what few digits write
 
 pub hex_at : (ds : List ℕ) (k : ℕ) → HexDigits 16 ds → k < length ds → digit_value (get_or ds k 0) < 16
 hex_at ds k h l = hex_from_true (get_or ds k 0) (All-get_or (λ c. is_ascii_hexdigit c ≡ true) ds k 0 l (passes_from_digits ds h))
 
-four_small : (ds : List ℕ) → HexDigits 16 ds → length ds ≤ 4 → digits_value 16 ds < 65536
-four_small ds h few =
-    let top : 16 ^ length ds ≤ 16 ^ 4 = pow-le-pow_right (omega arith) few in
+pub few_small : (k : ℕ) (ds : List ℕ) → HexDigits 16 ds → length ds ≤ k → digits_value 16 ds < 16 ^ k
+few_small k ds h few =
+    let top : 16 ^ length ds ≤ 16 ^ k = pow-le-pow_right (omega arith) few in
     omega (arith, digits_value-lt 16 ds h)
 
--- also as far as they are read
-pub front_small : (ds : List ℕ) (i : ℕ) → HexDigits 16 ds → length ds ≤ 4 → digits_value 16 (take i ds) < 65536
-front_small ds i h few =
-    four_small (take i ds) (digits_from_passes (take i ds) (All-take (λ c. is_ascii_hexdigit c ≡ true) i ds (passes_from_digits ds h))) (simp length-take (omega arith))
-
 pub group_small : (x : List ℕ) (g : ℕ) → Group x g → g < 65536
-group_small x g h = omega (arith, h.number, four_small x h.digits.1 h.few)
+group_small x g h = omega (arith, h.number, few_small 4 x h.digits.1 h.few)
 
 -- what is written of a group reads back
 
@@ -93,23 +85,10 @@ reads (suc k) g h some small = ⊎_elim
     positive zero a b = absurd (omega arith)
     positive (suc j) a b = omega arith
 
-module _ (g : ℕ) (h : g < 65536) where
-  pub hex_group : Group (hex g) g
-  hex_group =
-      let r = reads 4 g (omega arith) (omega arith) (omega arith) in
-      record { digits = (r.some, r.each); few = r.few; number = sym r.same }
-
-  pub hex_short : length (hex g) ≤ 4
-  hex_short = hex_group.few
-
-  pub hex_some : 0 < length (hex g)
-  hex_some = hex_group.digits.0
-
-  pub hex_passes : Passes is_ascii_hexdigit (hex g)
-  hex_passes = passes_from_digits (hex g) hex_group.digits.1
-
-  pub hex_first : is_ascii_hexdigit (get_or (hex g) 0 0) ≡ true
-  hex_first = All-get_or (λ c. is_ascii_hexdigit c ≡ true) (hex g) 0 0 hex_some hex_passes
+pub hex_group : (g : ℕ) → g < 65536 → Group (hex g) g
+hex_group g h =
+    let r = reads 4 g (omega arith) (omega arith) (omega arith) in
+    record { digits = (r.some, r.each); few = r.few; number = sym r.same }
 
 -- a group and then what begins with no digit
 module _ (x : List ℕ) (g : ℕ) (h : Group x g) (rest : List ℕ) (none : hexes rest ≡ 0) where

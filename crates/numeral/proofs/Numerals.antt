@@ -4,11 +4,11 @@ use Rattle.std.specs.Char.{is_ascii_digit}
 use Rattle.std.proofs.lemmas.Fmt as shelf
 use Rattle.std.proofs.lemmas.Fmt.{decimal_digit, decimal_step, digits_decimal, decimal_nonempty, first_decimal, length-decimal-le, decimal_injective}
 use Rattle.std.proofs.ByRecursion.{All-get_or, All-from_get_or}
-use Rattle.std.proofs.lemmas.List.{length-append}
+use Rattle.std.proofs.lemmas.List.{take-append-drop}
 use Rattle.std.proofs.lemmas.Str.Parse.{IsNumeralModel, numerals_by_fold, tells_by_index}
 use Rattle.std.proofs.lemmas.Bool.Decides.{nat_tests}
 use Rattle.numeral.specs.Numbers.{decimals, Begins, Digits, Lean, value_on}
-use Rattle.numeral.proofs.Runs.{Passes, passes_front, leading_append, take_leading, drop_leading}
+use Rattle.numeral.proofs.Runs.{Passes, passes_front, leading_rest, take_leading, drop_leading}
 
 pub value_on_ge : (n : ℕ) (cs : List ℕ) → n ≤ value_on n cs
 value_on_ge n [] = omega arith
@@ -38,11 +38,6 @@ decimal1 n h = decimal_digit n h
 pub decimal2 : (n : ℕ) → 10 ≤ n → n < 100 → decimal n ≡ (48 + n / 10) ∷ ((48 + n % 10) ∷ [])
 decimal2 n l h = decimal_step n l (omega arith) ∙ ap (λ d. d ++ ((48 + n % 10) ∷ [])) (decimal1 (n / 10) (omega arith))
 
-pub decimal3 : (n : ℕ) → 100 ≤ n → n < 1000 → decimal n ≡ (48 + n / 100) ∷ ((48 + n / 10 % 10) ∷ ((48 + n % 10) ∷ []))
-decimal3 n l h =
-    let e : n / 10 / 10 ≡ n / 100 = omega arith in
-    decimal_step n (omega arith) (omega arith) ∙ ap (λ d. d ++ ((48 + n % 10) ∷ [])) (decimal2 (n / 10) (omega arith) (omega arith) ∙ ap (λ k. (48 + k) ∷ ((48 + n / 10 % 10) ∷ [])) e)
-
 pub decimal_short : (n : ℕ) → n < 1000 → length (decimal n) ≤ 3
 decimal_short n h = length-decimal-le 3 n (omega arith) (omega arith) (omega arith)
 
@@ -65,9 +60,6 @@ decimal_value ds d lean h = shelf.decimal-digits_value own ds d lean.some lean.f
 
 -- a number and then what begins with no digit
 module _ (n : ℕ) (small : n < 2 ^ 64) (rest : List ℕ) (none : decimals rest ≡ 0) where
-  pub decimal_digits : decimals (decimal n ++ rest) ≡ length (decimal n)
-  decimal_digits = leading_append is_ascii_digit (decimal n) rest (decimal_passes n small) none
-
   pub decimal-take : take (decimals (decimal n ++ rest)) (decimal n ++ rest) ≡ decimal n
   decimal-take = take_leading is_ascii_digit (decimal n) rest (decimal_passes n small) none
 
@@ -81,6 +73,13 @@ same_part v n xs ys vs ns xd yd e = (
   sym (decimal-drop v vs xs xd) ∙ ap (λ l. drop (decimals l) l) e ∙ decimal-drop n ns ys yd,
 )
 
--- no number begins where nothing stands
-pub begins_nothing : (limit n : ℕ) (rest : List ℕ) → limit < 2 ^ 64 → Begins limit [] n rest → ⊥
-begins_nothing limit n rest h b = omega (arith, decimal_nonempty n (omega (arith, b.small)), simp length-append at (ap length b.spelt))
+-- the number and the rest that begin a text are the only ones
+pub begins_one : {limit v n : ℕ} {text xs ys : List ℕ} → limit < 2 ^ 64 → Begins limit text v xs → Begins limit text n ys → (v ≡ n) × (xs ≡ ys)
+begins_one {limit} {v} {n} {text} {xs} {ys} small b c = same_part v n xs ys (omega (arith, b.small)) (omega (arith, c.small)) b.ends c.ends (sym b.spelt ∙ c.spelt)
+
+-- a text that a number begins, begins with that number's digits and no more
+pub begins_front : (limit : ℕ) (text rest : List ℕ) (n : ℕ) → n ≤ limit → take (decimals text) text ≡ decimal n → rest ≡ drop (decimals text) text → Begins limit text n rest
+begins_front limit text rest n small e f = record { small = small; ends = ap decimals f ∙ leading_rest is_ascii_digit text; spelt = let g = take-append-drop (decimals text) text in cc }
+
+pub begins_digits : {limit n : ℕ} {text rest : List ℕ} → limit < 2 ^ 64 → Begins limit text n rest → take (decimals text) text ≡ decimal n
+begins_digits {limit} {n} {text} {rest} small b = ap (λ l. take (decimals l) l) b.spelt ∙ decimal-take n (omega (arith, b.small)) rest b.ends

@@ -1,8 +1,8 @@
 // What a reader found at the front of a text.
 
-// A value, and the index of the first byte behind its text.
+// A value, and the text behind the one that it was read from.
 #[derive(Clone, Copy, PartialEq, Eq, Debug)]
-pub struct Leading<T> {
+pub struct Leading<'a, T> {
     pub value: T,
-    pub end: usize,
+    pub rest: &'a [u8],
 }

@@ -1,5 +1,5 @@
 // Decimal numbers: one or more digits, no idle zero in front, at most a limit that the caller names.
-ghost use Rattle.std.specs.Prelude.{◌≡◌, ℕ, ◌+◌, ◌-◌, ◌<◌, ◌≤◌, T, List, ◌∷◌, ◌++◌, length, take, drop, decimal, MatchOption, MatchResult, ◌≢◌};
+ghost use Rattle.std.specs.Prelude.{◌≡◌, ℕ, ◌<◌, ◌≤◌, T, List, ◌∷◌, length, decimal, MatchOption, MatchResult, ◌≢◌};
 ghost use Rattle.fault.specs.Causes.{alone};
 ghost use Rattle.fault.specs.declared.Cause.TheVariants.{Malformed};
 ghost use Rattle.numeral.specs.Numbers.{Digits, Lean, Begins, decimals, value_on};
@@ -7,20 +7,12 @@ ghost use Rattle.numeral.specs.Numbers.{Digits, Lean, Begins, decimals, value_on
 use crate::leading::Leading;
 use fault::{Cause, Fault};
 
-// Where the digits from `at` on end: those before it are digits, and none begins what follows.
-fn digits_end(text: &[u8], at: usize) -> usize
-    requires { at ≤ length text.now }
-    ensures count { result ≡ at + decimals (drop at text.now) }
+// How many digits begin a text.
+fn count_digits(text: &[u8]) -> usize
+    ensures count { result ≡ decimals text.now }
     ensures within { result ≤ length text.now }
-    ensures front { Digits (take (result - at) (drop at text.now)) }
-    ensures rest { decimals (drop result text.now) ≡ 0 }
-    ensures whole { drop at text.now ≡ take (result - at) (drop at text.now) ++ drop result text.now }
 {
-    let mut i = at;
-    while i < text.len() && text[i].is_ascii_digit() {
-        i += 1;
-    }
-    i
+    text.iter().take_while(|c| c.is_ascii_digit()).count()
 }
 
 // Whether digits have the form of a number: at least one, and no idle zero in front.
@@ -59,20 +51,15 @@ fn value(ds: &[u8], limit: u32) -> Option<u32>
     if is_lean(ds) { sum(ds, limit) } else { None }
 }
 
-// The number that stands at `at`, with all its digits.
-pub fn leading_number(text: &[u8], at: usize, limit: u32) -> Result<Leading<u32>, Fault>
+// The number that begins a text, with all the digits that stand there.
+pub fn leading_number(text: &[u8], limit: u32) -> Result<Leading<'_, u32>, Fault>
     ensures { MatchResult result
-        (λ x. Begins limit (drop at text.now) x.value (drop x.end text.now) × (x.end ≤ length text.now))
-        (λ f. (f ≡ alone Malformed) × ((n : ℕ) (rest : List ℕ) → Begins limit (drop at text.now) n rest → ⊥)) }
+        (λ x. Begins limit text.now x.value x.rest.now)
+        (λ f. (f ≡ alone Malformed) × ((n : ℕ) (rest : List ℕ) → Begins limit text.now n rest → ⊥)) }
 {
-    if at > text.len() {
-        return Err(Fault::alone(Cause::Malformed));
-    }
-    let end = digits_end(text, at);
-    match value(&text[at..end], limit) {
-        Some(value) => Ok(Leading { value, end }),
-        None => Err(Fault::alone(Cause::Malformed)),
-    }
+    let (digits, rest) = text.split_at(count_digits(text));
+    let value = value(digits, limit).ok_or(Fault::alone(Cause::Malformed))?;
+    Ok(Leading { value, rest })
 }
 
 // The number that a whole text writes.
@@ -81,27 +68,21 @@ pub fn number(text: &[u8], limit: u32) -> Result<u32, Fault>
         (λ n. (n ≤ limit) × (text.now ≡ decimal n))
         (λ f. (f ≡ alone Malformed) × ((n : ℕ) → n ≤ limit → text.now ≢ decimal n)) }
 {
-    if digits_end(text, 0) < text.len() {
-        return Err(Fault::alone(Cause::Malformed));
-    }
-    match value(text, limit) {
-        Some(n) => Ok(n),
-        None => Err(Fault::alone(Cause::Malformed)),
+    match leading_number(text, limit)? {
+        Leading { value, rest: [] } => Ok(value),
+        _ => Err(Fault::alone(Cause::Malformed)),
     }
 }
 
-// The number that stands at `at` with the byte `stop` behind it, read with that byte.
-pub fn number_before(text: &[u8], at: usize, limit: u32, stop: u8) -> Result<Leading<u32>, Fault>
+// The number that begins a text with the byte `stop` behind it, and what follows that byte.
+pub fn number_before(text: &[u8], limit: u32, stop: u8) -> Result<Leading<'_, u32>, Fault>
     ensures { MatchResult result
-        (λ x. Begins limit (drop at text.now) x.value (stop ∷ drop x.end text.now) × (x.end ≤ length text.now))
-        (λ f. (f ≡ alone Malformed) × ((n : ℕ) (rest : List ℕ) → Begins limit (drop at text.now) n (stop ∷ rest) → ⊥)) }
+        (λ x. Begins limit text.now x.value (stop ∷ x.rest.now))
+        (λ f. (f ≡ alone Malformed) × ((n : ℕ) (rest : List ℕ) → Begins limit text.now n (stop ∷ rest) → ⊥)) }
 {
-    let n = leading_number(text, at, limit)?;
-    if n.end < text.len() && text[n.end] == stop {
-        return Ok(Leading {
-            value: n.value,
-            end: n.end + 1,
-        });
+    let number = leading_number(text, limit)?;
+    match number.rest {
+        [first, rest @ ..] if *first == stop => Ok(Leading { rest, ..number }),
+        _ => Err(Fault::alone(Cause::Malformed)),
     }
-    Err(Fault::alone(Cause::Malformed))
 }

@@ -1,73 +1,57 @@
 // Writing to a draft, and copying it out. A draft takes no more than its longest text: what would
 // pass that is left out, and `take 43` in each contract says so.
-ghost use Rattle.std.specs.Prelude.{◌≡◌, ◌<◌, ◌≤◌, false, [], ◌∷◌, ◌++◌, take, decimal};
+ghost use Rattle.std.specs.Prelude.{◌≡◌, ◌≤◌, false, [], ◌∷◌, ◌++◌, length, take, decimal};
 ghost use Rattle.std.specs.Fmt.{digits};
-ghost use Rattle.std.specs.Char.{digit_char};
 ghost use Rattle.numeral.specs.Groups.{hex};
-ghost use Rattle.numeral.specs.Drafts.{text, Wrote};
+ghost use Rattle.numeral.specs.Drafts.{Wrote};
 
-use crate::draft::Draft;
+use crate::draft::{Draft, LONGEST};
 use fault::{Cause, Fault};
-
-// The digit below sixteen as a lower-case byte.
-fn glyph(d: u8) -> u8
-    requires { d < 16 }
-    ensures { result ≡ digit_char d }
-{
-    if d < 10 { b'0' + d } else { b'a' + (d - 10) }
-}
 
 impl Draft {
     // A draft with nothing written.
     pub fn new() -> Draft
-        ensures { text result ≡ [] }
+        ensures { result ≡ [] }
     {
         Draft {
-            bytes: [0; 43],
+            bytes: [0; LONGEST],
             len: 0,
         }
     }
 
-    // One byte more, where there is room.
-    fn add(&mut self, b: u8)
-        requires { self.old.len < 43 }
-        ensures { text self.new ≡ take 43 (text self.old ++ (b ∷ [])) }
-    {
-        let at = self.len;
-        self.bytes[at] = b;
-        self.len = at + 1;
-    }
-
     // One byte more.
     pub fn push(&mut self, b: u8)
-        ensures { text self.new ≡ take 43 (text self.old ++ (b ∷ [])) }
+        ensures { self.new ≡ take 43 (self.old ++ (b ∷ [])) }
     {
-        if self.len < 43 {
-            self.add(b);
+        if self.len < LONGEST {
+            self.bytes[self.len] = b;
+            self.len += 1;
         }
     }
 
     // The digits of a number in a base up to sixteen, lower case, with no idle zero.
     fn spell<const BASE: u16>(&mut self, n: u16)
-        requires { (2 ≤ BASE) × (BASE ≤ 16) }
-        ensures { text self.new ≡ take 43 (text self.old ++ digits BASE false n) }
+        requires low { 2 ≤ BASE }
+        requires high { BASE ≤ 16 }
+        ensures { self.new ≡ take 43 (self.old ++ digits BASE false n) }
     {
         if n >= BASE {
             self.spell::<BASE>(n / BASE);
         }
-        self.push(glyph((n % BASE) as u8));
+        let digit = char::from_digit(u32::from(n % BASE), 16).unwrap();
+        self.push(digit as u8);
     }
 
     // A number in decimal.
     pub fn decimal(&mut self, n: u8)
-        ensures { text self.new ≡ take 43 (text self.old ++ decimal n) }
+        ensures { self.new ≡ take 43 (self.old ++ decimal n) }
     {
         self.spell::<10>(u16::from(n));
     }
 
     // A group in hexadecimal.
     pub fn hex(&mut self, g: u16)
-        ensures { text self.new ≡ take 43 (text self.old ++ hex g) }
+        ensures { self.new ≡ take 43 (self.old ++ hex g) }
     {
         self.spell::<16>(g);
     }
@@ -75,7 +59,8 @@ impl Draft {
     // Copies the text to the front of lent memory and answers its count, or refuses, with nothing
     // changed, memory that is too short for it.
     pub fn copy_to(&self, memory: &mut [u8]) -> Result<usize, Fault>
-        ensures { Wrote (text self.now) memory.old memory.new result }
+        ensures wrote { Wrote self.now memory.old memory.new result }
+        ensures short { length self.now ≤ 43 }
     {
         let len = self.len;
         if memory.len() < len {

@@ -1,19 +1,27 @@
--- `leading_number` refuses where no number begins.
-use Rattle.std.proofs.Common.{◌≡◌, ◌-◌, [], take, drop, ap, ◌∙◌, arith}
-use Rattle.std.proofs.lemmas.List.{drop_all}
-use Rattle.numeral.specs.Numbers.{decimals}
-use Rattle.numeral.proofs.Numerals.{decimal-take, begins_nothing}
+-- `leading_number` takes the digits that begin the text, and refuses where they write no number.
+use Rattle.std.proofs.Common.{◌≡◌, Some, None, arith}
+use Rattle.std.proofs.lemmas.Option.{MatchOption-at_some, MatchOption-at_none}
+use Rattle.std.proofs.lemmas.Result.{err_from_is_err_and}
+use Rattle.fault.specs.Causes.{alone}
+use Rattle.fault.specs.declared.Cause.TheVariants.{Malformed}
+use Rattle.numeral.proofs.Numerals.{digits_front, begins_front, begins_digits}
 use Rattle.numeral.proofs.number.leading_number.Goals as goal
 
-pub returns-then-at-text : goal.returns-then-at-text
-returns-then-at-text c =
-    let e : drop c.args.at c.args.text.now ≡ [] = drop_all c.args.at c.args.text.now (omega arith) in
-    (c.alone.ensures, λ n rest b. begins_nothing c.args.limit n rest (omega arith) (rw e at b))
+pub value-requires : goal.value-requires
+value-requires c = rw (c.split_at.ensures.front, c.count_digits.ensures.count) (digits_front c.args.text.now)
 
-pub returns-in-None : goal.returns-in-None
-returns-in-None c =
-    let x = drop c.args.at c.args.text.now in
-    let e : c.digits_end-end.result - c.args.at ≡ decimals x = omega arith in (
-      c.alone-in-None.ensures,
-      λ n rest b. c.in-None.ensures n b.small (rw e (ap (λ l. take (decimals l) l) b.spelt ∙ decimal-take n (omega (arith, b.small)) rest b.ends)),
-    )
+pub returns-in_err-value : goal.returns-in_err-value
+returns-in_err-value c =
+    let p = err_from_is_err_and c.from_residual.result c.from_residual.ensures.1 in
+    let none : c.value.result ≡ None = grind arith in
+    let h = MatchOption-at_none _ _ none c.value.ensures in
+    let v = rw (c.split_at.ensures.front, c.count_digits.ensures.count) at h in
+    let f : c.in_err-value.field-0.0 ≡ alone Malformed = grind arith in
+    rw (p.1, p.2) (f, λ n rest b. v n b.small (begins_digits (omega arith) b))
+
+pub returns : goal.returns
+returns c =
+    let some : c.value.result ≡ Some c.in_ok-value.value = grind arith in
+    let h = MatchOption-at_some _ _ c.in_ok-value.value some c.value.ensures in
+    let v = rw (c.split_at.ensures.front, c.count_digits.ensures.count) at h in
+    begins_front c.args.limit c.args.text.now _ c.in_ok-value.value v.0 v.1 (grind arith)

@@ -1,6 +1,6 @@
 -- `sum` gives what the digits write, or stops above the limit, which more digits do not bring back.
-use Rattle.std.proofs.Common.{◌≡◌, ◌+◌, ◌-◌, ◌*◌, get_or, drop, sym, ◌∙◌, arith}
-use Rattle.std.proofs.lemmas.List.{at_drop_more, at_drop_all}
+use Rattle.std.proofs.Common.{◌≡◌, ◌+◌, ◌-◌, ◌*◌, get_or, drop, arith}
+use Rattle.std.proofs.lemmas.List.{at_drop_more}
 use Rattle.numeral.specs.Numbers.{value_on}
 use Rattle.numeral.proofs.Numerals.{value_on_ge}
 use Rattle.numeral.proofs.number.sum.Goals as goal
@@ -12,17 +12,3 @@ returns-then-n-most c =
     let n = l.n * 10 + (get_or s l.d-index 0 - 48) in
     let step : value_on l.n (drop l.d-index s) ≡ value_on n (drop (l.d-index + 1) s) = at_drop_more (value_on l.n) s l.d-index 0 c.loop-d-test.true in
     omega (arith, value_on_ge n (drop (l.d-index + 1) s))
-
-pub loop-d-preserved : goal.loop-d-preserved
-loop-d-preserved c =
-    let l = c.loop-d in
-    let s = c.args.ds.now in
-    let step : value_on l.n (drop l.d-index s) ≡ value_on (l.n * 10 + (get_or s l.d-index 0 - 48)) (drop (l.d-index + 1) s) = at_drop_more (value_on l.n) s l.d-index 0 c.loop-d-test.true in
-    (omega arith, rw c.from.ensures (sym step ∙ l.invariant.1))
-
-pub returns : goal.returns
-returns c =
-    let l = c.loop-d in
-    let s = c.args.ds.now in
-    let step : value_on l.n (drop l.d-index s) ≡ l.n = at_drop_all (value_on l.n) s l.d-index c.loop-d-test.false in
-    (sym step ∙ l.invariant.1, l.invariant.0)
