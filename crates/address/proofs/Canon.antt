@@ -1,6 +1,6 @@
 -- The canonical text of an address: it is a text of that address, and it is short.
 use Rattle.std.proofs.Common.{◌≡◌, ℕ, zero, suc, ◌+◌, ◌-◌, ◌*◌, ◌<◌, ◌≤◌, eqb, List, [], ◌∷◌, ◌++◌, length, get_or, take, drop, replicate, sym, refl, ap, ◌∙◌, subst, inl, inr, arith}
-use Rattle.std.proofs.lemmas.List.{append-nil, append_assoc, length-append, length-take, length-take-le, length-drop, length-replicate, nil_from_length, get_or-drop, drop-drop, take_more, take-append-drop}
+use Rattle.std.proofs.lemmas.List.{append-nil, append_assoc, length-append, length-take, length-drop, length-replicate, get_or-drop, drop-drop, take_more, take_rest, take-append-drop}
 use Rattle.std.proofs.lemmas.List.Sums.{prefix_len-le-length}
 use Rattle.std.proofs.lemmas.Bool.{cases_lt, lt-ltb, le-ltb}
 use Rattle.numeral.specs.Groups.{hex}
@@ -78,24 +78,12 @@ behind_push : (gs : List ℕ) (g : ℕ) → behind (gs ++ (g ∷ [])) ≡ behind
 behind_push [] g = ap (λ l. 58 ∷ l) (append-nil (hex g))
 behind_push (f ∷ gs) g = ap (λ l. 58 ∷ l) (ap (λ l. hex f ++ l) (behind_push gs g) ∙ sym (append_assoc (hex f) (behind gs) (58 ∷ hex g)))
 
-colons_push : (gs : List ℕ) (g : ℕ) → 0 < length gs → colons (gs ++ (g ∷ [])) ≡ (colons gs ++ (58 ∷ [])) ++ hex g
-colons_push [] g some = absurd (omega arith)
-colons_push (f ∷ gs) g some =
-    let a = behind_push gs g in
-    let b = append_assoc (hex f) (behind gs) (58 ∷ hex g) in
-    let d = append_assoc (hex f ++ behind gs) (58 ∷ []) (hex g) in
-    cc
+pub colons_first : (gs : List ℕ) → 1 ≤ length gs → colons gs ≡ hex (get_or gs 0 0) ++ behind (take (length gs - 1) (drop 1 gs))
+colons_first [] some = absurd (omega arith)
+colons_first (g ∷ gs) some = ap (λ l. hex g ++ behind l) (sym (take_rest (g ∷ gs) 1))
 
-module _ (gs : List ℕ) (i : ℕ) (here : i < length gs) where
-  pub colons_first : i ≡ 0 → colons (take (i + 1) gs) ≡ colons (take i gs) ++ hex (get_or gs i 0)
-  colons_first e =
-      let n : take i gs ≡ [] = nil_from_length (take i gs) (length-take-le i gs (omega arith) ∙ e) in
-      let t = take_more gs i 0 here in
-      let a = append-nil (hex (get_or gs i 0)) in
-      ap colons (t ∙ ap (λ l. l ++ (get_or gs i 0 ∷ [])) n) ∙ a ∙ ap (λ l. colons l ++ hex (get_or gs i 0)) (sym n)
-
-  pub colons_later : 0 < i → colons (take (i + 1) gs) ≡ (colons (take i gs) ++ (58 ∷ [])) ++ hex (get_or gs i 0)
-  colons_later some = ap colons (take_more gs i 0 here) ∙ colons_push (take i gs) (get_or gs i 0) (omega (arith, length-take-le i gs (omega arith)))
+pub behind_more : (gs : List ℕ) (i : ℕ) → i < length gs → behind (take (i + 1) gs) ≡ behind (take i gs) ++ (58 ∷ hex (get_or gs i 0))
+behind_more gs i here = ap behind (take_more gs i 0 here) ∙ behind_push (take i gs) (get_or gs i 0)
 
 -- the two forms of the text
 pub text6_cut : (gs : List ℕ) → run gs < length gs → text6 gs ≡ colons (take (run gs) gs) ++ (58 ∷ (58 ∷ colons (drop (run gs + zeros (drop (run gs) gs)) gs)))

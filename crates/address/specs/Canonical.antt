@@ -1,5 +1,5 @@
 -- The one text by which an IPv6 address is written.
-use Rattle.std.specs.Prelude.{ℕ, suc, ◌+◌, cond, List, [], ◌∷◌, ◌++◌, length, take, drop, nat_eq, nat_le, nat_lt}
+use Rattle.std.specs.Prelude.{◌≡◌, ℕ, suc, ◌+◌, cond, List, [], ◌∷◌, ◌++◌, length, take, drop, nat_eq, nat_le, nat_lt, slice_index}
 use Rattle.std.specs.List.{prefix_len}
 use Rattle.numeral.specs.Groups.{hex}
 
@@ -21,6 +21,10 @@ zeros gs = prefix_len (λ g. nat_eq g 0) gs
 abbrev pub run : List ℕ → ℕ
 run [] = 0
 run (g ∷ gs) = cond (nat_le 2 (zeros (g ∷ gs))) 0 (suc (run gs))
+
+-- two zero groups stand at k and behind it
+abbrev pub TwoZeros : List ℕ → ℕ → Type 0
+TwoZeros gs k = (slice_index gs k ≡ 0) × (slice_index gs (k + 1) ≡ 0)
 
 -- that run is written as two colons
 abbrev pub text6 : List ℕ → List ℕ

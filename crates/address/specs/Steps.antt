@@ -3,10 +3,6 @@ use Rattle.std.specs.Prelude.{◌≡◌, ℕ, zero, suc, ◌<◌, ◌≤◌, Boo
 use Rattle.numeral.specs.Groups.{Group, hexes, starts}
 use Rattle.address.specs.Colons.{Joined}
 
--- whether a text begins with two colons
-abbrev pub gap : List ℕ → Bool
-gap text = slice_index text 0 == 58 && slice_index text 1 == 58
-
 -- what stands between n groups and the next
 abbrev pub between : ℕ → List ℕ
 between zero = []

@@ -1,8 +1,7 @@
 // IPv4 addresses in text: four octets in decimal, joined by dots.
-ghost use Rattle.std.specs.Prelude.{◌≡◌, ℕ, ◌≤◌, List, ◌∷◌, ◌++◌, length, drop, decimal, MatchResult, ◌≢◌, slice_index};
+ghost use Rattle.std.specs.Prelude.{◌≡◌, ℕ, ◌≤◌, List, ◌∷◌, ◌++◌, decimal, MatchResult, ◌≢◌, slice_index};
 ghost use Rattle.fault.specs.Causes.{alone};
 ghost use Rattle.fault.specs.declared.Cause.TheVariants.{Malformed};
-ghost use Rattle.numeral.specs.Drafts.{text as written};
 ghost use Rattle.address.specs.Dotted.{Dotted, quad};
 
 use fault::Fault;
@@ -10,13 +9,13 @@ use numeral::draft::Draft;
 use numeral::leading::Leading;
 use numeral::number::{number, number_before};
 
-// The octet that stands at `at`, read with the dot behind it.
-fn octet(text: &[u8], at: usize) -> Result<Leading<u32>, Fault>
+// The octet that begins a text with a dot behind it, and what follows that dot.
+fn octet(text: &[u8]) -> Result<Leading<'_, u32>, Fault>
     ensures { MatchResult result
-        (λ x. (x.value ≤ 255) × (x.end ≤ length text.now) × (drop at text.now ≡ decimal x.value ++ (46 ∷ drop x.end text.now)))
-        (λ f. (f ≡ alone Malformed) × ((n : ℕ) (rest : List ℕ) → n ≤ 255 → drop at text.now ≢ decimal n ++ (46 ∷ rest))) }
+        (λ x. (x.value ≤ 255) × (text.now ≡ decimal x.value ++ (46 ∷ x.rest.now)))
+        (λ f. (f ≡ alone Malformed) × ((n : ℕ) (rest : List ℕ) → n ≤ 255 → text.now ≢ decimal n ++ (46 ∷ rest))) }
 {
-    number_before(text, at, 255, b'.')
+    number_before(text, 255, b'.')
 }
 
 // The address that a whole text writes.
@@ -25,11 +24,10 @@ fn value(text: &[u8]) -> Result<u32, Fault>
         (λ n. Dotted text.now n)
         (λ f. (f ≡ alone Malformed) × ((n : ℕ) → Dotted text.now n → ⊥)) }
 {
-    let a = octet(text, 0)?;
-    let b = octet(text, a.end)?;
-    let c = octet(text, b.end)?;
-    let end = c.end;
-    let d = number(&text[end..], 255)?;
+    let a = octet(text)?;
+    let b = octet(a.rest)?;
+    let c = octet(b.rest)?;
+    let d = number(c.rest, 255)?;
     Ok(((a.value * 256 + b.value) * 256 + c.value) * 256 + d)
 }
 
@@ -45,7 +43,7 @@ pub fn read(text: &[u8], into: &mut u32) -> Result<(), Fault>
 
 // Four octets in decimal, joined by dots.
 fn joined(octets: [u8; 4]) -> Draft
-    ensures { written result ≡ decimal (slice_index octets 0) ++ (46 ∷ (decimal (slice_index octets 1) ++ (46 ∷ (decimal (slice_index octets 2) ++ (46 ∷ decimal (slice_index octets 3)))))) }
+    ensures { result ≡ decimal (slice_index octets 0) ++ (46 ∷ (decimal (slice_index octets 1) ++ (46 ∷ (decimal (slice_index octets 2) ++ (46 ∷ decimal (slice_index octets 3)))))) }
 {
     let [a, b, c, d] = octets;
     let mut draft = Draft::new();
@@ -61,7 +59,7 @@ fn joined(octets: [u8; 4]) -> Draft
 
 // The text of an address.
 pub fn write(address: u32) -> Draft
-    ensures { written result ≡ quad address }
+    ensures { result ≡ quad address }
 {
     joined(address.to_be_bytes())
 }

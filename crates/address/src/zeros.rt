@@ -1,41 +1,32 @@
 // Which zero groups of an IPv6 address its text leaves out.
-ghost use Rattle.std.specs.Prelude.{◌≡◌, ◌+◌, ◌≤◌, drop};
-ghost use Rattle.address.specs.Canonical.{run, zeros};
+ghost use Rattle.std.specs.Prelude.{◌≡◌, ℕ, ◌+◌, ◌<◌, ◌≤◌, drop, MatchOption};
+ghost use Rattle.address.specs.Canonical.{run, zeros, TwoZeros};
 
-// Neighbouring groups, from `start` up to `end`.
-#[derive(Clone, Copy, PartialEq, Eq, Debug)]
-pub struct Run {
-    pub start: usize,
-    pub end: usize,
+use std::ops::Range;
+
+// Where the leftmost two zero groups begin.
+fn leftmost_pair(groups: &[u16; 8]) -> Option<usize>
+    ensures { MatchOption result
+        ((k : ℕ) → k < 7 → ¬ TwoZeros groups.now k)
+        (λ i. (i < 7) × TwoZeros groups.now i × ((k : ℕ) → k < i → ¬ TwoZeros groups.now k)) }
+{
+    groups.windows(2).position(|pair| matches!(pair, [0, 0]))
 }
 
-// Where the zero groups from `start` on end.
-fn zeros_end(groups: &[u16; 8], start: usize) -> usize
-    requires { start ≤ 8 }
-    ensures { (result ≡ start + zeros (drop start groups.now)) × (result ≤ 8) }
+// How many zero groups begin these.
+fn leading_zeros(groups: &[u16]) -> usize
+    ensures { result ≡ zeros groups.now }
 {
-    let mut end = start;
-    while end < 8 && groups[end] == 0 {
-        end += 1;
-    }
-    end
+    groups.iter().take_while(|g| **g == 0).count()
 }
 
-// The leftmost run of two or more zero groups; nothing, behind the last group, where there is none.
-pub fn leftmost_run(groups: &[u16; 8]) -> Run
-    ensures start { result.start ≡ run groups.now }
-    ensures end { result.end ≡ result.start + zeros (drop result.start groups.now) }
-    ensures within { result.end ≤ 8 }
+// The leftmost run of two or more zero groups, where there is one.
+pub fn leftmost_run(groups: &[u16; 8]) -> Option<Range<usize>>
+    ensures { MatchOption result
+        (run groups.now ≡ 8)
+        (λ r. (r.start ≡ run groups.now) × (r.start < 8)
+        × (r.end ≡ r.start + zeros (drop r.start groups.now)) × (r.end ≤ 8)) }
 {
-    let mut start = 0;
-    while start < 7 {
-        if groups[start] == 0 && groups[start + 1] == 0 {
-            return Run {
-                start,
-                end: zeros_end(groups, start),
-            };
-        }
-        start += 1;
-    }
-    Run { start: 8, end: 8 }
+    let start = leftmost_pair(groups)?;
+    Some(start..start + leading_zeros(&groups[start..]))
 }

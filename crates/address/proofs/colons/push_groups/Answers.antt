@@ -1,37 +1,31 @@
--- `push_groups` writes one more group at each turn, and a colon in front of all but the first.
-use Rattle.std.proofs.Common.{◌≤◌, [], ◌∷◌, ◌++◌, length, get_or, take, sym, ap, ◌∙◌, arith, length-take}
-use Rattle.std.proofs.lemmas.List.{append-nil, take_all}
-use Rattle.numeral.specs.Drafts.{text}
+-- `push_groups` writes the first group, and then one more at each turn, behind a colon.
+use Rattle.std.proofs.Common.{◌-◌, [], ◌∷◌, ◌++◌, length, get_or, take, drop, sym, ap, ◌∙◌, arith, length-take}
+use Rattle.std.proofs.lemmas.List.{append_assoc, take_all, nil_from_length}
 use Rattle.numeral.specs.Groups.{hex}
-use Rattle.numeral.proofs.Texts.{then}
-use Rattle.address.specs.Canonical.{colons}
-use Rattle.address.proofs.Canon.{colons_first, colons_later}
+use Rattle.numeral.proofs.Texts.{nothing, then}
+use Rattle.address.specs.Canonical.{behind}
+use Rattle.address.proofs.Canon.{colons_first, behind_more}
 use Rattle.address.proofs.colons.push_groups.Goals as goal
-use Rattle.address.proofs.colons.push_groups.Goals.{then-i-gt0, else-i-gt0}
 
-pub loop-i-init : goal.loop-i-init
-loop-i-init c =
-    let d = c.args.draft.now in
-    let short : length (text d) ≤ 43 = simp length-take (omega (arith, d.fits)) in
-    sym (ap (take 43) (append-nil (text d)) ∙ take_all 43 (text d) short)
+pub returns-in_default : goal.returns-in_default
+returns-in_default c = rw (nil_from_length c.args.groups.now (omega arith)) (nothing 43 c.args.draft.now c.requires)
 
-pub loop-i-preserved : goal.loop-i-preserved
-loop-i-preserved c =
-    let l = c.loop-i in
-    let gs = c.args.groups.now in
-    let old = text c.args.draft.now in
-    let so_far = colons (take l.i gs) in
-    let g = hex (get_or gs l.i 0) in
-    elim c.if-i-gt0.branch [
-      | then-i-gt0 w ↦
-          let p = then 43 old so_far (58 ∷ []) l.invariant w.push.ensures in
-          let q = then 43 old (so_far ++ (58 ∷ [])) g (ap text w.draft-is ∙ p) c.hex.ensures in
-          q ∙ ap (λ t. take 43 (old ++ t)) (sym (colons_later gs l.i c.loop-i-test.true w.if-i-gt0.true))
-      | else-i-gt0 w ↦
-          let q = then 43 old so_far g (ap text w.draft-is ∙ l.invariant) c.hex.ensures in
-          q ∙ ap (λ t. take 43 (old ++ t)) (sym (colons_first gs l.i c.loop-i-test.true (omega (arith, w.if-i-gt0.false))))
-    ]
+pub loop-g-init : goal.loop-g-init
+loop-g-init c = nothing 43 c.hex.new.self (rw c.hex.ensures (simp length-take (omega arith)))
+
+pub loop-g-preserved : goal.loop-g-preserved
+loop-g-preserved c =
+    let l = c.loop-g in
+    let old = c.hex.new.self in
+    let rest = take (length c.args.groups.now - 1) (drop 1 c.args.groups.now) in
+    let p = then 43 old _ (58 ∷ []) l.invariant c.push.ensures in
+    let q = then 43 old _ (hex (get_or rest l.g-index 0)) p c.hex-in-loop-g.ensures in
+    q ∙ ap (λ t. take 43 (old ++ t)) (append_assoc (behind (take l.g-index rest)) (58 ∷ []) (hex (get_or rest l.g-index 0)) ∙ sym (behind_more rest l.g-index c.loop-g-test.true))
 
 pub returns : goal.returns
 returns c =
-    c.loop-i.invariant ∙ ap (λ l. take 43 (text c.args.draft.now ++ colons l)) (take_all c.loop-i.i c.args.groups.now c.loop-i-test.false)
+    let l = c.loop-g in
+    let gs = c.args.groups.now in
+    let rest = take (length gs - 1) (drop 1 gs) in
+    let all = ap behind (take_all l.g-index rest c.loop-g-test.false) in
+    then 43 c.args.draft.now (hex (get_or gs 0 0)) (behind (take l.g-index rest)) c.hex.ensures l.invariant ∙ ap (λ t. take 43 (c.args.draft.now ++ t)) (ap (λ t. hex (get_or gs 0 0) ++ t) all ∙ sym (colons_first gs c.in-len1-up.len_at_least))

@@ -1,8 +1,7 @@
--- `push_groups` has written the groups before index i.
+-- `push_groups` has written the groups before `g`, each behind a colon.
 use Rattle.std.proofs.Common.{◌≡◌, ◌++◌, take}
-use Rattle.numeral.specs.Drafts.{text}
-use Rattle.address.specs.Canonical.{colons}
+use Rattle.address.specs.Canonical.{behind}
 use Rattle.address.proofs.colons.push_groups.Given as goal
 
-abbrev pub invariant-loop-i : goal.invariant-loop-i
-invariant-loop-i l = text l.draft ≡ take 43 (text l.initial.draft ++ colons (take l.i l.groups))
+abbrev pub invariant-loop-g : goal.invariant-loop-g
+invariant-loop-g l = l.draft ≡ take 43 (l.initial.draft ++ behind (take l.g-index l.rest))

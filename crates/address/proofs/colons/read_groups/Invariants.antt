@@ -1,11 +1,10 @@
--- `read_groups` has read `count` groups up to `end`, and left the rest of the array as it was.
-use Rattle.std.proofs.Common.{◌≡◌, ◌≤◌, length, take, drop}
+-- `read_groups` has read `count` groups up to `rest`, and left the others as they were.
+use Rattle.std.proofs.Common.{◌≡◌, take, drop}
 use Rattle.address.specs.Steps.{Reads}
 use Rattle.address.proofs.colons.read_groups.Given as goal
 
 abbrev pub invariant-loop-count : goal.invariant-loop-count
-invariant-loop-count l =
-    Reads (drop l.at l.text) (take l.count l.into) (drop l.end l.text)
-    × (l.end ≤ length l.text)
-    × (length l.into ≡ 8)
-    × (drop l.count l.into ≡ drop l.count l.initial.into)
+invariant-loop-count l = record {
+  read : Reads l.text (take l.count l.into) l.rest;
+  behind : drop l.count l.into ≡ drop l.count l.initial.into;
+}

@@ -1,25 +1,25 @@
--- `leftmost_run` stops at the first two zero groups, or has seen that there are none.
-use Rattle.std.proofs.Common.{eqb, arith}
-use Rattle.std.proofs.lemmas.List.Sums.{prefix_len-drop_all}
-use Rattle.address.proofs.Runs.{run_here, run_step, run_last}
+-- `leftmost_run` ends its run where the zero groups end, and there is none where no two stand.
+use Rattle.std.proofs.Common.{◌≡◌, ℕ, ◌+◌, ◌-◌, ◌≤◌, eqb, List, length, take, drop, sym, ap, ◌∙◌, arith, length-drop}
+use Rattle.std.proofs.lemmas.List.{take_rest}
+use Rattle.std.proofs.lemmas.List.Sums.{prefix_len-le-length}
+use Rattle.address.specs.Canonical.{zeros}
+use Rattle.address.proofs.Runs.{run_at, run_nowhere}
 use Rattle.address.proofs.zeros.leftmost_run.Goals as goal
-use Rattle.address.proofs.zeros.leftmost_run.Goals.{else-groups-start-eq0-via-then-groups-start-eq0+else-groups-start-eq0-2, else-groups-start-eq0-via-else-groups-start-eq0}
 
-pub returns-then-groups-start-eq0-2 : goal.returns-then-groups-start-eq0-2
-returns-then-groups-start-eq0-2 c =
-    let r = run_here c.args.groups.now c.loop-start.start (omega arith) c.if-groups-start-eq0.true c.if-groups-start-eq0-2.true in
-    record { start = omega arith; end = c.zeros_end.ensures.0; within = c.zeros_end.ensures.1 }
+-- n zero groups stand from i on
+counted : (gs : List ℕ) (i n : ℕ) → length gs ≡ 8 → i ≤ 8 → n ≡ zeros (take (8 - i) (drop i gs)) → (n ≡ zeros (drop i gs)) × (i + n ≤ 8)
+counted gs i n eight here e =
+    let z : n ≡ zeros (drop i gs) = e ∙ ap (λ k. zeros (take (k - i) (drop i gs))) (sym eight) ∙ ap zeros (take_rest gs i) in
+    (z, omega (arith, prefix_len-le-length (λ g. eqb g 0) (drop i gs), length-drop i gs))
 
-pub loop-start-preserved : goal.loop-start-preserved
-loop-start-preserved c =
-    let gs = c.args.groups.now in
-    let i = c.loop-start.start in
-    let e = run_step gs i (omega arith)
-    (λ p q. elim c.else-groups-start-eq0.branch [ else-groups-start-eq0-via-then-groups-start-eq0+else-groups-start-eq0-2 w ↦ w.if-groups-start-eq0-2.false q | else-groups-start-eq0-via-else-groups-start-eq0 w ↦ w.if-groups-start-eq0.false p ]) in
-    (omega arith, omega arith)
+pub returns-in_err-start : goal.returns-in_err-start
+returns-in_err-start c = rw c.from_residual.ensures (let e = run_nowhere c.args.groups.now (λ k l. c.in_err-start.ensures k (omega arith)) in omega arith)
+
+pub overflow_add-result : goal.overflow_add-result
+overflow_add-result c = let h = c.in_ok-start.ensures in omega (arith, counted c.args.groups.now c.in_ok-start.start c.leading_zeros.result (omega arith) (omega arith) c.leading_zeros.ensures)
 
 pub returns : goal.returns
 returns c =
-    let r = run_last c.args.groups.now c.loop-start.start (omega arith) in
-    let z = prefix_len-drop_all (λ g. eqb g 0) c.args.groups.now 8 (omega arith) in
-    record { start = omega arith; end = omega arith; within = omega arith }
+    let h = c.in_ok-start.ensures in
+    let z = counted c.args.groups.now c.in_ok-start.start c.leading_zeros.result (omega arith) (omega arith) c.leading_zeros.ensures in
+    (sym (run_at c.args.groups.now c.in_ok-start.start (omega arith) h.1 h.2), omega arith, omega arith, z.1)
