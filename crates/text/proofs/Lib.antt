@@ -1,4 +1,2 @@
 pub mod Slashes
-pub mod Memory
 pub mod Spelling
-pub mod Rewrites

@@ -6,24 +6,19 @@ use Rattle.std.proofs.lemmas.Bool.{cases_lt}
 use Rattle.address.proofs.Reading.{address_one}
 use Rattle.address.proofs.Canon.{text6_address, text6_short}
 use Rattle.prefix.specs.Groups.{whole, Eight}
-use Rattle.prefix.specs.Eights.{whole_one, below_eight}
+use Rattle.prefix.specs.Eights.{whole_one, whole_small, below_eight}
 use Rattle.text.specs.Families.{groups, Spelt6, written6}
 
-pub whole-groups : (n : ℕ) → n < 2 ^ 128 → whole (groups n) ≡ n
+whole-groups : (n : ℕ) → n < 2 ^ 128 → whole (groups n) ≡ n
 whole-groups n h = omega arith
 
-groups_below : (n : ℕ) → n < 2 ^ 128 → (k : ℕ) → k < 8 → slice_index (groups n) k < 65536
-groups_below n h = below_eight (λ k. slice_index (groups n) k < 65536) (omega arith) (omega arith) (omega arith) (omega arith) (omega arith) (omega arith) (omega arith) (omega arith)
-
-pub groups_eight : (n : ℕ) → n < 2 ^ 128 → Eight (groups n)
+groups_eight : (n : ℕ) → n < 2 ^ 128 → Eight (groups n)
 groups_eight n h =
-    record {
-      count = refl;
-      each = λ k. ⊎_elim (groups_below n h k) (λ past. omega (arith, get_or_past (groups n) k 0 past)) (cases_lt k 8);
-    }
+    let below = below_eight (λ k. slice_index (groups n) k < 65536) (omega arith) (omega arith) (omega arith) (omega arith) (omega arith) (omega arith) (omega arith) (omega arith) in
+    record { count = refl; each = λ k. ⊎_elim (below k) (λ past. omega (arith, get_or_past (groups n) k 0 past)) (cases_lt k 8) }
 
-pub groups-whole : (gs : List ℕ) → Eight gs → whole gs < 2 ^ 128 → groups (whole gs) ≡ gs
-groups-whole gs e h = whole_one (groups (whole gs)) gs (groups_eight (whole gs) h) e (whole-groups (whole gs) h)
+pub groups-whole : (gs : List ℕ) → Eight gs → groups (whole gs) ≡ gs
+groups-whole gs e = let h = whole_small gs e.each in whole_one (groups (whole gs)) gs (groups_eight (whole gs) h) e (whole-groups (whole gs) h)
 
 pub spelt6_one : (text : List ℕ) (m n : ℕ) → Spelt6 text m → Spelt6 text n → m ≡ n
 spelt6_one text m n s t = sym s.number ∙ ap whole (address_one text s.eight t.eight s.reads t.reads) ∙ t.number

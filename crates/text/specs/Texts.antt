@@ -1,6 +1,6 @@
 -- The texts of prefixes, of any family: the text of the first address, a slash, and the length in
 -- decimal. A family says by a relation which texts spell which address.
-use Rattle.std.specs.Prelude.{◌≡◌, ℕ, ◌<◌, ◌≤◌, ◌⊎◌, List, ◌∷◌, ◌++◌, length, Some, decimal, ◌≢◌, slice_index}
+use Rattle.std.specs.Prelude.{◌≡◌, ℕ, ◌≤◌, ◌⊎◌, List, ◌∷◌, ◌++◌, Some, decimal}
 use Rattle.fault.specs.Causes.{alone}
 use Rattle.fault.specs.declared.Cause.TheVariants.{Malformed}
 use Rattle.fault.specs.declared.Fault.{Fault}
@@ -23,7 +23,3 @@ Refused spelt w text f =
 -- the one text by which a prefix is written
 abbrev pub prefix_text : (ℕ → List ℕ) → Block → List ℕ
 prefix_text written b = written b.first ++ (47 ∷ decimal b.length)
-
--- no slash stands in the text
-abbrev pub NoSlash : List ℕ → Type 0
-NoSlash text = (k : ℕ) → k < length text → slice_index text k ≢ 47

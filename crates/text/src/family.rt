@@ -2,7 +2,6 @@
 ghost use Rattle.std.specs.Prelude.{◌≡◌, ℕ, ◌^◌, ◌<◌, ◌≤◌, List, length, MatchResult};
 ghost use Rattle.fault.specs.Causes.{alone};
 ghost use Rattle.fault.specs.declared.Cause.TheVariants.{Malformed};
-ghost use Rattle.numeral.specs.Drafts.{text as drafted};
 
 use fault::Fault;
 use numeral::draft::Draft;
@@ -18,17 +17,17 @@ pub trait TextFamily: Family {
     // Reads a whole text as an address into a lent place.
     fn read_address(text: &[u8], into: &mut Self::Address) -> Result<(), Fault>
         ensures { MatchResult result
-            (λ _. spelt text.now (Self.Family.form.number into.new) × Self.Family.real into.new)
+            (λ _. spelt text.now (Self.form.number into.new) × Self.real into.new)
             (λ f. (f ≡ alone Malformed) × (into.new ≡ into.old) × ((n : ℕ) → spelt text.now n → ⊥)) };
 
     // The text of an address, as a draft.
     fn draft(address: Self::Address) -> Draft
-        ensures text { drafted result ≡ written (Self.Family.form.number address) }
-        ensures real { Self.Family.real address };
+        ensures text { result ≡ written (Self.form.number address) }
+        ensures real { Self.real address };
 
-    ghost readable: { (n : ℕ) → n < 2 ^ Self.Family.form.width → spelt (written n) n };
+    ghost readable: { (n : ℕ) → n < 2 ^ Self.WIDTH → spelt (written n) n };
 
     ghost single: { (text : List ℕ) (m n : ℕ) → spelt text m → spelt text n → m ≡ n };
 
-    ghost short: { (n : ℕ) → n < 2 ^ Self.Family.form.width → length (written n) ≤ 39 };
+    ghost short: { (n : ℕ) → n < 2 ^ Self.WIDTH → length (written n) ≤ 39 };
 }

@@ -14,9 +14,9 @@ impl TextFamily for V4 {
 
     ghost spelt = { Dotted };
 
-    ghost readable = { λ n h. quad_dotted n h };
+    ghost readable = { quad_dotted };
 
-    ghost single = { λ text m n s t. dotted_one text m n s t };
+    ghost single = { dotted_one };
 
     ghost short = { λ n h. omega (arith, quad_short n h) };
 

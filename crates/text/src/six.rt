@@ -13,11 +13,11 @@ impl TextFamily for V6 {
 
     ghost spelt = { Spelt6 };
 
-    ghost readable = { λ n h. written6_spelt n h };
+    ghost readable = { written6_spelt };
 
-    ghost single = { λ text m n s t. spelt6_one text m n s t };
+    ghost single = { spelt6_one };
 
-    ghost short = { λ n h. written6_short n h };
+    ghost short = { written6_short };
 
     fn read_address(text: &[u8], into: &mut [u16; 8]) -> Result<(), Fault> {
         colons::read(text, into)

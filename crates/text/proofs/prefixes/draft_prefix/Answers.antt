@@ -1,16 +1,18 @@
--- The address, the slash and the length stand one behind the other.
-use Rattle.std.proofs.Common.{◌∷◌, ◌++◌, decimal, ap, ◌∙◌, arith}
-use Rattle.numeral.specs.Drafts.{text}
-use Rattle.text.proofs.Memory.{drafted_whole}
+-- The address, the slash and the length stand one behind the other, and fit the draft.
+use Rattle.std.proofs.Common.{[], ◌∷◌, ◌++◌, decimal, arith}
+use Rattle.std.proofs.lemmas.Fmt.{length-decimal-le}
+use Rattle.std.proofs.lemmas.List.{length-append, take_all}
+use Rattle.numeral.proofs.Texts.{then}
 use Rattle.text.proofs.prefixes.draft_prefix.Goals as goal
 
 pub returns : goal.returns
 returns g c =
-    let f = g.F.Family.form in
     let p = c.args.p.now in
-    let n = f.first p in
+    let n = g.F.Family.form.first p in
+    let l = c.length.result in
     let w = g.F.TextFamily.written n in
     let short = g.met.F.TextFamily.short n (g.met.F.Family.valid p).small in
-    let a = c.draft-draft.ensures.text ∙ ap g.F.TextFamily.written c.first.ensures in
-    drafted_whole w (text c.draft-draft.result) (text c.push.new.self) (text c.decimal.new.self) c.length.result short (omega (arith, c.length.type_inv)) a c.push.ensures c.decimal.ensures
-    ∙ ap (λ l. w ++ (47 ∷ decimal l)) c.length.ensures
+    let few = length-decimal-le 3 l (omega arith) (omega (arith, c.length.type_inv)) (omega (arith, c.length.type_inv)) in
+    let whole = take_all 43 (w ++ (47 ∷ decimal l)) (omega (arith, length-append w (47 ∷ decimal l))) in
+    let three = then 43 c.draft-draft.result (47 ∷ []) (decimal l) c.push.ensures c.decimal.ensures in
+    cc
