@@ -6,7 +6,7 @@ use Rattle.fault.specs.declared.Fault.{Fault}
 use Rattle.address.specs.Dotted.{Dotted, quad}
 use Rattle.text.specs.Families.{Spelt6, written6}
 use Rattle.text.specs.Rewriting.{Rewrote}
-use Rattle.prefixes.specs.Cuts.{Without}
+use Rattle.std.specs.Str.Iter.{LacksByte as Without}
 use Rattle.prefixes.specs.declared.line.Version.{Version}
 use Rattle.prefixes.specs.declared.line.Version.TheVariants.{Four, Six}
 

@@ -1,8 +1,8 @@
 -- What the program prints for its whole input: a line for each line.
-use Rattle.std.specs.Prelude.{◌≡◌, ℕ, ◌+◌, ◌<◌, List, [], ◌∷◌, ◌++◌, length, take, replicate, Ok, Err, codes, decimal, encode_utf8, Result}
-use Rattle.fault.specs.Causes as causes
+use Rattle.std.specs.Prelude.{◌≡◌, ℕ, ◌+◌, ◌<◌, List, [], ◌∷◌, ◌++◌, length, take, replicate, Ok, Err, codes, decimal, Result}
+use Rattle.fault.specs.Causes.{shown}
 use Rattle.fault.specs.declared.Fault.{Fault}
-use Rattle.prefixes.specs.Cuts.{Without}
+use Rattle.std.specs.Str.Iter.{LacksByte as Without}
 use Rattle.prefixes.specs.Lines.{Answered}
 
 -- the line that is printed for an answer: `+ TEXT`, or `! LINE LAYER NUMBER COLUMN`
@@ -12,12 +12,8 @@ printed line memory (Err f) =
     codes "! "
     ++ (decimal line
     ++ (codes " "
-    ++ (encode_utf8 (causes.letter (causes.layer f.cause))
-    ++ (codes " "
-    ++ (decimal (causes.number f.cause)
-    ++ (codes " "
-    ++ (decimal f.column
-    ++ codes "\n")))))))
+    ++ (shown f
+    ++ codes "\n")))
 
 -- out is what is printed for one line
 pub record Line (number : ℕ) (line out : List ℕ) : Type 0 where

@@ -1,18 +1,14 @@
-// Cutting a text at a byte: input into lines, lines into fields.
-ghost use Rattle.std.specs.Prelude.{◌≡◌, ◌-◌, ◌<◌, ◌≤◌, length, slice_index, slice_range};
-ghost use Rattle.prefixes.specs.Cuts.{Without};
+// Cutting a text at a byte: a line into fields.
+ghost use Rattle.std.specs.Prelude.{◌≡◌, ◌<◌, ◌≤◌, length, take, slice_index};
+ghost use Rattle.std.specs.Str.Iter.{LacksByte as Without};
 
-// Where the part of a text from `at` on ends: at the next `stop`, or with the text.
-pub fn part_end(text: &[u8], at: usize, stop: u8) -> usize
-    ensures within { (result ≤ length text.now) × (at ≤ length text.now → at ≤ result) }
-    ensures past { length text.now < at → result ≡ length text.now }
-    ensures part { Without stop (slice_range text.now at result) }
+// Where a text's first part ends: at the first `stop`, or with the text.
+pub fn part_end(text: &[u8], stop: u8) -> usize
+    ensures within { result ≤ length text.now }
+    ensures part { Without stop (take result text.now) }
     ensures behind { result < length text.now → slice_index text.now result ≡ stop }
 {
-    for i in at..text.len() {
-        if text[i] == stop {
-            return i;
-        }
-    }
-    text.len()
+    text.iter()
+        .position(|byte| *byte == stop)
+        .unwrap_or(text.len())
 }

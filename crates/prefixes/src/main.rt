@@ -10,7 +10,6 @@ mod cut;
 mod line;
 
 use answer::answer;
-use cut::part_end;
 use fault::Fault;
 use std::alloc::{AllocError, Global};
 use std::io::{Read, Write};
@@ -29,10 +28,7 @@ fn add_text(out: &mut Vec<u8>, text: &[u8]) -> Result<(), AllocError>
 fn fault_line(heap: Global, number: usize, fault: Fault) -> Result<String, AllocError>
     ensures { IfOk result (λ t. string_bytes t ≡ printed number [] (Err fault)) }
 {
-    let letter = fault.cause.layer().letter();
-    let cause = fault.cause.number();
-    let column = fault.column;
-    format!(in heap; "! {number} {letter} {cause} {column}\n")
+    format!(in heap; "! {number} {fault}\n")
 }
 
 // Adds the answer to a line, the `number`th, to the output.
@@ -41,7 +37,7 @@ fn report(heap: Global, out: &mut Vec<u8>, number: usize, line: &[u8]) -> Result
 {
     let mut memory = [0u8; 43];
     match answer(line, &mut memory) {
-        Ok(count) => add_text(out, &memory[0..count])?,
+        Ok(count) => add_text(out, &memory[..count])?,
         Err(fault) => out.extend_from_slice(fault_line(heap, number, fault)?.as_bytes())?,
     }
     Ok(())
@@ -52,13 +48,9 @@ fn reports(heap: Global, input: &[u8]) -> Result<Vec<u8>, AllocError>
     ensures { IfOk result (λ out. Lines 1 input.now out.items) }
 {
     let mut out = Vec::new(heap);
-    let mut at = 0;
-    let mut number = 1usize;
-    while at < input.len() {
-        let end = part_end(input, at, b'\n');
-        report(heap, &mut out, number, &input[at..end])?;
-        at = end + 1;
-        number = number.saturating_add(1);
+    for (number, line) in (1usize..).zip(input.split_inclusive(|byte| *byte == b'\n')) {
+        let line = line.strip_suffix(b"\n").unwrap_or(line);
+        report(heap, &mut out, number, line)?;
     }
     Ok(out)
 }
