@@ -1,6 +1,5 @@
 -- What the texts of calls have in them.
-use Rattle.std.proofs.Common.{◌≡◌, ℕ, ◌-◌, ◌^◌, ◌<◌, ◌≤◌, List, [], ◌∷◌, ◌++◌, length, get_or, take, drop, decimal, sym, refl, ap, ◌∙◌, append-nil, arith}
-use Rattle.std.proofs.lemmas.List.{drop_more, take_rest}
+use Rattle.std.proofs.Common.{◌≡◌, ℕ, ◌^◌, ◌<◌, ◌≤◌, List, [], ◌∷◌, ◌++◌, length, drop, decimal, sym, refl, ap, ◌∙◌, append-nil, arith}
 use Rattle.numeral.proofs.Numerals.{no_digit, same_part}
 use Rattle.spaces.specs.declared.call.Call.{Call}
 use Rattle.spaces.specs.declared.call.Call.TheVariants.{Take, Give, Open, Out, Busy, Seek}
@@ -44,16 +43,3 @@ no_single l n low a b d e f (Open m) s = d (head l 111 (decimal n) (decimal m) s
 no_single l n low a b d e f (Out m) s = e (head l 117 (decimal n) (decimal m) s.spelt)
 no_single l n low a b d e f (Busy m) s = f (head l 98 (decimal n) (decimal m) s.spelt)
 no_single l n low a b d e f (Seek w m g) s = no_comma n w _ low s.small.0 (ap (drop 1) s.spelt)
-
--- a letter other than s has one number behind it
-pub one_number : (letter : ℕ) (rest : List ℕ) → (letter ≡ 115 → ⊥) → (c : Call) → Spells (letter ∷ rest) c → (n : ℕ) × (n ≤ 65535) × (rest ≡ decimal n)
-one_number l rest other (Take n) s = (n, s.small, ap (drop 1) s.spelt)
-one_number l rest other (Give n) s = (n, s.small, ap (drop 1) s.spelt)
-one_number l rest other (Open n) s = (n, s.small, ap (drop 1) s.spelt)
-one_number l rest other (Out n) s = (n, s.small, ap (drop 1) s.spelt)
-one_number l rest other (Busy n) s = (n, s.small, ap (drop 1) s.spelt)
-one_number l rest other (Seek w d f) s = absurd (other (head l 115 rest _ s.spelt))
-
--- a text is its first byte and the rest
-pub first_rest : (text : List ℕ) → 0 < length text → text ≡ get_or text 0 0 ∷ take (length text - 1) (drop 1 text)
-first_rest text some = drop_more text 0 0 some ∙ ap (λ x. get_or text 0 0 ∷ x) (sym (take_rest text 1))

@@ -42,22 +42,17 @@ impl<T: Drop> From<AllocFailed<T>> for Trouble {
 
 // Reads a line: its depth and its calls. The fault of the first field at fault has that field's column.
 fn read_run(heap: Global, line: &str) -> Result<Run, Trouble> {
-    let mut calls = Vec::new(heap);
     let mut fields = line.split(' ');
     let first = fields.next().unwrap_or("");
-    let depth = number(first.as_bytes(), 65535)?;
-    let mut column = first.len().saturating_add(2);
+    let depth = number(first.as_bytes(), 65535)? as usize;
+    let mut calls = Vec::new(heap);
+    let mut column = first.len() + 2;
     for field in fields {
-        match read_call(field.as_bytes()) {
-            Ok(call) => calls.push(call)?,
-            Err(fault) => return Err(Trouble::Fault(fault.at(column))),
-        }
-        column = column.saturating_add(field.len()).saturating_add(1);
+        let call = read_call(field.as_bytes()).map_err(|fault| fault.at(column))?;
+        calls.push(call)?;
+        column = column.saturating_add(field.len() + 1);
     }
-    Ok(Run {
-        depth: depth as usize,
-        calls,
-    })
+    Ok(Run { depth, calls })
 }
 
 // The bytes that a tree of this depth uses, and the words that a bitmap uses; none where it would be shut.
@@ -95,10 +90,7 @@ fn answer(rt: HostRuntime, number: usize, line: &str) -> anyhow::Result<()> {
         Ok(asked) => report(rt, &asked),
         Err(Trouble::Memory) => Err(anyhow!("no memory")),
         Err(Trouble::Fault(fault)) => {
-            let letter = fault.cause.layer().letter();
-            let cause = fault.cause.number();
-            let column = fault.column;
-            println!(rt; "! {number} {letter} {cause} {column}")?;
+            println!(rt; "! {number} {fault}")?;
             Ok(())
         }
     }
@@ -107,10 +99,8 @@ fn answer(rt: HostRuntime, number: usize, line: &str) -> anyhow::Result<()> {
 fn main(rt: HostRuntime) -> anyhow::Result<()> {
     let mut input = String::new(rt.alloc());
     rt.stdin().read_to_string(&mut input)?;
-    let mut number = 1usize;
-    for line in input.lines() {
+    for (number, line) in (1usize..).zip(input.lines()) {
         answer(rt, number, line)?;
-        number = number.saturating_add(1);
     }
     Ok(())
 }

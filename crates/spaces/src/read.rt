@@ -33,10 +33,9 @@ fn seek(numbers: &[u8]) -> Result<Call, Fault>
         (λ c. Spells (115 ∷ numbers.now) c)
         (λ f. (f ≡ alone Malformed) × ((c : Calls) → Spells (115 ∷ numbers.now) c → ⊥)) }
 {
-    let within = number_before(numbers, 0, MOST, b',')?;
-    let depth = number_before(numbers, within.end, MOST, b',')?;
-    let end = depth.end;
-    let from = number(&numbers[end..], MOST)?;
+    let within = number_before(numbers, MOST, b',')?;
+    let depth = number_before(within.rest, MOST, b',')?;
+    let from = number(depth.rest, MOST)?;
     Ok(Call::Seek(within.value as usize, depth.value as usize, from as usize))
 }
 
@@ -46,15 +45,11 @@ pub fn read_call(text: &[u8]) -> Result<Call, Fault>
         (λ c. Spells text.now c)
         (λ f. (f ≡ alone Malformed) × ((c : Calls) → Spells text.now c → ⊥)) }
 {
-    let [letter, ..] = text else {
-        return Err(Fault::alone(Cause::Malformed));
-    };
-    let rest = &text[1..];
-    if *letter == b's' {
-        return seek(rest);
-    }
-    match single(*letter, number(rest, MOST)?) {
-        Some(call) => Ok(call),
-        None => Err(Fault::alone(Cause::Malformed)),
+    match text {
+        [b's', numbers @ ..] => seek(numbers),
+        [letter, rest @ ..] => {
+            single(*letter, number(rest, MOST)?).ok_or(Fault::alone(Cause::Malformed))
+        }
+        [] => Err(Fault::alone(Cause::Malformed)),
     }
 }

@@ -1,5 +1,4 @@
-use Rattle.std.proofs.Common.{decimal, ◌∙◌, arith}
-use Rattle.std.proofs.lemmas.List.{take_rest}
+use Rattle.std.proofs.Common.{decimal, arith}
 use Rattle.std.proofs.lemmas.Result.{err_from_is_err_and}
 use Rattle.numeral.proofs.Numerals.{no_digit}
 use Rattle.spaces.proofs.Spelling.{three, behind}
@@ -8,7 +7,7 @@ use Rattle.spaces.proofs.read.seek.Goals as goal
 pub returns-in_err-depth : goal.returns-in_err-depth
 returns-in_err-depth c =
     let p = err_from_is_err_and c.from_residual-in_err-depth.result c.from_residual-in_err-depth.ensures.1 in
-    let a = c.in_ok-within.ensures.0 in
+    let a = c.in_ok-within.ensures in
     let xs = c.args.numbers.now in
     rw (p.1, p.2) (
       c.in_err-depth.ensures.0,
@@ -21,8 +20,8 @@ returns-in_err-depth c =
 pub returns-in_err-from : goal.returns-in_err-from
 returns-in_err-from c =
     let p = err_from_is_err_and c.from_residual-in_err-from.result c.from_residual-in_err-from.ensures.1 in
-    let a = c.in_ok-within.ensures.0 in
-    let b = c.in_ok-depth.ensures.0 in
+    let a = c.in_ok-within.ensures in
+    let b = c.in_ok-depth.ensures in
     let xs = c.args.numbers.now in
     rw (p.1, p.2) (
       c.in_err-from.ensures.0,
@@ -30,16 +29,15 @@ returns-in_err-from c =
           let t = three xs x s in
           let i = behind xs c.in_ok-within.within.value t.w a.small t.small.0 a.spelt t.spelt in
           let j = behind _ c.in_ok-depth.depth.value t.d b.small t.small.1 b.spelt i in
-          c.in_err-from.ensures.1 t.f t.small.2 (take_rest xs c.in_ok-depth.depth.end ∙ j),
+          c.in_err-from.ensures.1 t.f t.small.2 j,
     )
 
 pub returns : goal.returns
 returns c =
-    let a = c.in_ok-within.ensures.0 in
-    let b = c.in_ok-depth.ensures.0 in
+    let a = c.in_ok-within.ensures in
+    let b = c.in_ok-depth.ensures in
     let e = c.in_ok-from.ensures in
     let xs = c.args.numbers.now in
-    let r = take_rest xs c.in_ok-depth.depth.end in
     let i = a.spelt in
     let j = b.spelt in
     let k = e.1 in
