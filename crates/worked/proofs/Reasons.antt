@@ -114,7 +114,7 @@ worked =
       place_four = refl;
       place_six = refl;
       one_group = inr (record { left = codes "1:2:3:4:5:6:7"; right = []; before = 1 ∷ (2 ∷ (3 ∷ (4 ∷ (5 ∷ (6 ∷ (7 ∷ [])))))); after = []; spelt = refl; first = left; last = refl; room = omega arith; groups = refl });
-      no_group = tail_refused (codes "1:2:3:4::5:6:7:8") (1 ∷ (2 ∷ (3 ∷ (4 ∷ [])))) (codes "::5:6:7:8") took_head 3 (5 ∷ (6 ∷ (7 ∷ []))) (codes ":8") (omega arith) (omega arith) took_tail (λ e. omega (arith, ap length e));
+      no_group = tail_refused (codes "1:2:3:4::5:6:7:8") (1 ∷ (2 ∷ (3 ∷ (4 ∷ [])))) (codes "::5:6:7:8") took_head (codes "5:6:7:8") refl 3 (5 ∷ (6 ∷ (7 ∷ []))) (codes ":8") (omega arith) (omega arith) took_tail (λ e. omega (arith, ap length e));
       leftmost = leftmost;
       tree_bytes = tree_bytes;
       one_place = one_place;

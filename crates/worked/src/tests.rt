@@ -82,28 +82,32 @@ fn is_limited<S: Space + Drop>(rt: &impl Abort, space: S) {
     assert_eq!(rt; space.seek(3, 2, 0), Some(6));
 }
 
-fn quota_first<S: Space + Drop>(rt: &impl Abort, below: S) {
-    is_limited(rt, quota_over_hold_back(below, 12, 16));
-}
-
-fn hold_back_first<S: Space + Drop>(rt: &impl Abort, below: S) {
-    is_limited(rt, hold_back_over_quota(below, 12, 16));
-}
-
 #[test]
 fn limits_pile_either_way_over_a_tree(rt: HostRuntime) {
     let mut bytes = [7u8; 33];
-    quota_first(&rt, BuddyTree::new(4, &mut bytes));
+    is_limited(
+        &rt,
+        quota_over_hold_back(BuddyTree::new(4, &mut bytes), 12, 16),
+    );
     assert_eq!(rt; bytes[32], 7);
-    hold_back_first(&rt, BuddyTree::new(4, &mut bytes));
+    is_limited(
+        &rt,
+        hold_back_over_quota(BuddyTree::new(4, &mut bytes), 12, 16),
+    );
 }
 
 #[test]
 fn limits_pile_either_way_over_a_bitmap(rt: HostRuntime) {
     let mut words = [7u64; 3];
-    quota_first(&rt, Bitmap::new(4, &mut words));
+    is_limited(
+        &rt,
+        quota_over_hold_back(Bitmap::new(4, &mut words), 12, 16),
+    );
     assert_eq!(rt; words[2], 7);
-    hold_back_first(&rt, Bitmap::new(4, &mut words));
+    is_limited(
+        &rt,
+        hold_back_over_quota(Bitmap::new(4, &mut words), 12, 16),
+    );
 }
 
 // Grants and returns for a while, in any space of depth 6: in the end the root is one free place.
