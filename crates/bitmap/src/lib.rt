@@ -31,8 +31,8 @@ fn mark<const OUT: bool>(words: &mut [u64], d: usize, units: Range<usize>)
 {
     let Range { start, end } = units;
     let share = 64 * share_of(d);
-    fill_run::<OUT>(words, start, end);
-    fill_run::<OUT>(words, share + start, share + start + 1);
+    fill_run::<OUT>(words, start..end);
+    fill_run::<OUT>(words, share + start..share + start + 1);
 }
 
 // All of the words, of which each is below 2^64: the proof knows that of a slice that is handed to a call.
@@ -105,8 +105,8 @@ impl<'a> Bitmap<'a> {
         };
         let share = 64 * share_of(self.depth);
         bit_at(self.words, share + start)
-            && first::<false>(self.words, start, end) == end
-            && first::<true>(self.words, share + start + 1, share + end) == share + end
+            && first::<false>(self.words, start..end) == end
+            && first::<true>(self.words, share + start + 1..share + end) == share + end
             && self.parts_at(end)
     }
 
@@ -118,25 +118,25 @@ impl<'a> Bitmap<'a> {
         e >= share || !bit_at(self.words, e) || bit_at(self.words, share + e)
     }
 
-    // The first place of depth d, from `from` to before `to`, that overlaps no place out. Behind a marked unit it
-    // goes on at the first place that begins where the marked units end.
-    fn first_free(&self, d: usize, from: usize, to: usize) -> Option<usize>
+    // The first of some places of depth d that overlaps no place out. Behind a marked unit it goes on at the first
+    // place that begins where the marked units end.
+    fn first_free(&self, d: usize, places: Range<usize>) -> Option<usize>
         requires live { 0 < self.now.depth }
         requires deep { d ≤ self.now.depth }
-        requires from { 2 ^ d ≤ from }
-        requires to { to ≤ 2 ^ (d + 1) }
-        ensures { MatchOption result ((k : ℕ) → from ≤ k → k < to → blocked (map_meaning self.now.depth self.now.words.now) k ≡ true) (Free (map_meaning self.now.depth self.now.words.now) from to) }
+        requires from { 2 ^ d ≤ places.start }
+        requires to { places.end ≤ 2 ^ (d + 1) }
+        ensures { MatchOption result ((k : ℕ) → places.start ≤ k → k < places.end → blocked (map_meaning self.now.depth self.now.words.now) k ≡ true) (Free (map_meaning self.now.depth self.now.words.now) places.start places.end) }
     {
         let size = 1 << (self.depth - d);
         let top = 1 << self.depth;
-        let mut n = from;
-        while n < to {
+        let mut n = places.start;
+        while n < places.end {
             let start = n * size - top;
-            let marked = first::<true>(self.words, start, start + size);
+            let marked = first::<true>(self.words, start..start + size);
             if marked == start + size {
                 return Some(n);
             }
-            let clear = first::<false>(self.words, marked, top);
+            let clear = first::<false>(self.words, marked..top);
             n = (top + clear).div_ceil(size);
         }
         None
@@ -156,7 +156,7 @@ impl<'a> Space for Bitmap<'a> {
         let Some(Range { start, end }) = self.units(n) else {
             return false;
         };
-        first::<true>(self.words, start, end) == end
+        first::<true>(self.words, start..end) == end
     }
 
     fn out(&self, n: usize) -> bool {
@@ -169,7 +169,7 @@ impl<'a> Space for Bitmap<'a> {
             return false;
         };
         let share = 64 * share_of(self.depth);
-        first::<true>(self.words, share + start, share + end) < share + end && self.parts_at(end)
+        first::<true>(self.words, share + start..share + end) < share + end && self.parts_at(end)
     }
 
     fn seek(&self, w: usize, d: usize, f: usize) -> Option<usize> {
@@ -177,7 +177,7 @@ impl<'a> Space for Bitmap<'a> {
             return None;
         }
         let places = places_at(w, d)?;
-        self.first_free(d, places.start.max(f), places.end)
+        self.first_free(d, places.start.max(f)..places.end)
     }
 
     fn take(&mut self, n: usize) -> bool

@@ -5,6 +5,8 @@
 ghost use Rattle.std.specs.Prelude.{◌≡◌, ℕ, ◌+◌, ◌*◌, ◌/◌, ◌<◌, ◌≤◌, min, not, ◌&&◌, ◌++◌, length, drop, replicate, if◌then◌else◌, nat_lt, slice_index};
 ghost use Rattle.bits.specs.Bit.{on, bit, within};
 
+use std::ops::Range;
+
 // Whether bit i is set.
 pub fn bit_at(words: &[u64], i: usize) -> bool
     ensures { result ≡ bit words.now i }
@@ -12,42 +14,44 @@ pub fn bit_at(words: &[u64], i: usize) -> bool
     words.get(i / 64).is_some_and(|w| (w >> (i % 64)) % 2 == 1)
 }
 
-// The bits of word w that lie in the run a..e, of which w is one of the words.
-fn part(w: usize, a: usize, e: usize) -> u64
-    requires from { a / 64 ≤ w }
-    requires to { 64 * w < e }
-    ensures { (j : ℕ) → j < 64 → on result j ≡ within a e (64 * w + j) }
+// The bits of word w that lie in a run of which w is one of the words.
+fn part(w: usize, start: usize, end: usize) -> u64
+    requires from { start / 64 ≤ w }
+    requires to { 64 * w < end }
+    ensures { (j : ℕ) → j < 64 → on result j ≡ within start end (64 * w + j) }
 {
-    let low = a.saturating_sub(64 * w);
-    let high = (e - 64 * w).min(64);
+    let low = start.saturating_sub(64 * w);
+    let high = (end - 64 * w).min(64);
     (u64::MAX << low) & (u64::MAX >> (64 - high))
 }
 
-// The first bit of the run a..e that is `SET`, or e.
-pub fn first<const SET: bool>(words: &[u64], a: usize, e: usize) -> usize
-    ensures range { result ≤ e }
-    ensures before { (k : ℕ) → a ≤ k → k < result → bit words.now k ≡ not SET }
-    ensures found { result < e → (a ≤ result) × (bit words.now result ≡ SET) }
+// The first bit of a run that is `SET`, or the end of the run.
+pub fn first<const SET: bool>(words: &[u64], run: Range<usize>) -> usize
+    ensures range { result ≤ run.end }
+    ensures before { (k : ℕ) → run.start ≤ k → k < result → bit words.now k ≡ not SET }
+    ensures found { result < run.end → (run.start ≤ result) × (bit words.now result ≡ SET) }
 {
-    for w in a / 64..e.div_ceil(64).min(words.len()) {
+    let Range { start, end } = run;
+    for w in start / 64..end.div_ceil(64).min(words.len()) {
         let word = if SET { words[w] } else { !words[w] };
-        let hits = word & part(w, a, e);
+        let hits = word & part(w, start, end);
         if hits != 0 {
             return 64 * w + hits.trailing_zeros() as usize;
         }
     }
     // Behind the words every bit is clear.
-    let behind = words.len().saturating_mul(64).max(a).min(e);
-    if SET { e } else { behind }
+    let behind = words.len().saturating_mul(64).max(start).min(end);
+    if SET { end } else { behind }
 }
 
-// Sets the run a..e to `SET`, as far as the words go.
-pub fn fill_run<const SET: bool>(words: &mut [u64], a: usize, e: usize)
-    ensures bits { (k : ℕ) → bit words.new k ≡ (if within a e k && nat_lt k (64 * length words.old) then SET else bit words.old k) }
-    ensures beyond { (k : ℕ) → e ≤ 64 * k → slice_index words.new k ≡ slice_index words.old k }
+// Sets a run to `SET`, as far as the words go.
+pub fn fill_run<const SET: bool>(words: &mut [u64], run: Range<usize>)
+    ensures bits { (k : ℕ) → bit words.new k ≡ (if within run.start run.end k && nat_lt k (64 * length words.old) then SET else bit words.old k) }
+    ensures beyond { (k : ℕ) → run.end ≤ 64 * k → slice_index words.new k ≡ slice_index words.old k }
 {
-    for w in a / 64..e.div_ceil(64).min(words.len()) {
-        let bits = part(w, a, e);
+    let Range { start, end } = run;
+    for w in start / 64..end.div_ceil(64).min(words.len()) {
+        let bits = part(w, start, end);
         words[w] = if SET {
             words[w] | bits
         } else {

@@ -18,6 +18,6 @@ loop-w-preserved g c =
       | else-this-ne0 b ↦ let q : v ≡ bit_and y (2 ^ 64 - 1 - p) = omega arith in grind (arith, nat_tests, on_and y (2 ^ 64 - 1 - p) j, on-not p j c.part-bits.type_inv lt)
     ] in
     record {
-      bits = λ k. let x = written ws c.args.a c.args.e w v p (not (eqb g.row.SET 0)) (omega arith) is c.part-bits.ensures k in let y = c.loop-w.invariant.bits k in grind (arith, nat_tests);
+      bits = λ k. let x = written ws c.args.run.start c.args.run.end w v p (not (eqb g.row.SET 0)) (omega arith) is c.part-bits.ensures k in let y = c.loop-w.invariant.bits k in grind (arith, nat_tests);
       beyond = λ k le. let ne : k ≢ w = omega arith in rw get_or-set_other (c.loop-w.invariant.beyond k le);
     }

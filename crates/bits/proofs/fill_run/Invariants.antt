@@ -4,6 +4,6 @@ use Rattle.bits.proofs.fill_run.Given as goal
 
 abbrev pub invariant-loop-w : goal.invariant-loop-w
 invariant-loop-w g l = record {
-  bits : (k : ℕ) → bit l.words k ≡ cond (within l.a l.e k && ltb k (64 * l.w)) (not (eqb g.row.SET 0)) (bit l.initial.words k);
-  beyond : (k : ℕ) → l.e ≤ 64 * k → get_or l.words k 0 ≡ get_or l.initial.words k 0;
+  bits : (k : ℕ) → bit l.words k ≡ cond (within l.start l.end k && ltb k (64 * l.w)) (not (eqb g.row.SET 0)) (bit l.initial.words k);
+  beyond : (k : ℕ) → l.end ≤ 64 * k → get_or l.words k 0 ≡ get_or l.initial.words k 0;
 }

@@ -6,7 +6,7 @@ use Rattle.bitmap.proofs.Search.{Run, run_at, up_less, up_past, clear_past, skip
 use Rattle.bitmap.proofs.Bitmap.first_free.Goals as goal
 use Rattle.bitmap.proofs.Bitmap.first_free.Goals.{In-loop-n, After-div_ceil-n}
 
-run : (c : In-loop-n) (i : ℕ) → c.args.from ≤ i → i < c.args.to → Run c.args.self.now.depth i (1 * 2 ^ (c.args.self.now.depth - c.args.d) % 2 ^ 64) (1 * 2 ^ c.args.self.now.depth % 2 ^ 64)
+run : (c : In-loop-n) (i : ℕ) → c.args.places.start ≤ i → i < c.args.places.end → Run c.args.self.now.depth i (1 * 2 ^ (c.args.self.now.depth - c.args.d) % 2 ^ 64) (1 * 2 ^ c.args.self.now.depth % 2 ^ 64)
 run c i lo hi =
     let t = c.args.self.now.depth in
     let le = c.args.self.now.shallow in
