@@ -1,6 +1,8 @@
 // Makes the same calls on a buddy tree and on a bitmap, and prints each answer and the memory of both.
 #![tactic(auto)]
 
+ghost use Rattle.std.specs.Prelude.{◌≤◌};
+
 mod call;
 mod read;
 
@@ -55,23 +57,22 @@ fn read_run(heap: Global, line: &str) -> Result<Run, Trouble> {
     Ok(Run { depth, calls })
 }
 
-// The bytes that a tree of this depth uses, and the words that a bitmap uses; none where it would be shut.
-fn memory_of(depth: usize) -> (usize, usize) {
+// The units of a space of this depth; none where it would be shut.
+fn units_of(depth: usize) -> usize
+    ensures { result ≤ 4096 }
+{
     match depth {
-        1..=12 => {
-            let units = 1usize << depth;
-            (2 * units, 2 * (units.max(64) / 64))
-        }
-        _ => (0, 0),
+        1..=12 => 1 << depth,
+        _ => 0,
     }
 }
 
 // Prints the answers to a line's calls, first the tree's and then the bitmap's, and the memory that they leave.
 fn report(rt: HostRuntime, asked: &Run) -> anyhow::Result<()> {
     let heap = rt.alloc();
-    let (count, words) = memory_of(asked.depth);
-    let mut bytes = vec![in heap; 0u8; count]?;
-    let mut words = vec![in heap; 0u64; words]?;
+    let units = units_of(asked.depth);
+    let mut bytes = vec![in heap; 0u8; 2 * units]?;
+    let mut words = vec![in heap; 0u64; 2 * units.div_ceil(64)]?;
     {
         let mut tree = BuddyTree::new(asked.depth, &mut bytes);
         let mut map = Bitmap::new(asked.depth, &mut words);
