@@ -1,6 +1,6 @@
 -- `lies` is what halving gives: n lies in m where n / 2 ^ k is m for some k.
-use Rattle.std.proofs.Common.{◌≡◌, ℕ, zero, suc, ◌+◌, ◌-◌, ◌*◌, ◌/◌, ◌^◌, ◌<◌, ◌≤◌, true, sym, ap, ◌∙◌, ⊎_elim, add-mul, div-mul-le_self, arith, pow_pos}
-use Rattle.std.proofs.lemmas.Nat.{le-div, div_below, mul-le}
+use Rattle.std.proofs.Common.{◌≡◌, ℕ, zero, suc, ◌+◌, ◌-◌, ◌*◌, ◌/◌, ◌^◌, ◌<◌, ◌≤◌, true, sym, ap, ◌∙◌, ⊎_elim, div-mul-le_self, arith, pow_pos}
+use Rattle.std.proofs.lemmas.Nat.{le-div, div_below}
 use Rattle.std.proofs.lemmas.Bool.{cases_lt}
 use Rattle.space.specs.Places.{lies, depth_of}
 use Rattle.space.proofs.Depths.{half_more, depth_halved}
@@ -37,13 +37,6 @@ lies_nested a b c bc pos x y =
 module _ (k n h : ℕ) (pos : 0 < h) (e : n / 2 ^ k ≡ h) where
   pub run_over : n < (h + 1) * 2 ^ k
   run_over = ⊎_elim (λ lt. lt) (λ ge. let q = le-div (h + 1) n (2 ^ k) (pow_pos k) ge in absurd (omega arith)) (cases_lt n ((h + 1) * 2 ^ k))
-
-  pub run_short : (h + 1) * 2 ^ k ≤ 2 * n
-  run_short =
-      let a : h * 2 ^ k ≤ n = rw e at (div-mul-le_self n (2 ^ k)) in
-      let b = mul-le 1 (2 ^ k) h (2 ^ k) pos (omega arith) in
-      let c = add-mul h 1 (2 ^ k) in
-      omega arith
 
   pub run_lies : (j : ℕ) → n ≤ j → j < (h + 1) * 2 ^ k → lies j h ≡ true
   run_lies j le lt =

@@ -1,5 +1,5 @@
 -- What `lies` is, step by step.
-use Rattle.std.proofs.Common.{◌≡◌, ℕ, zero, suc, ◌+◌, ◌*◌, ◌/◌, ◌<◌, ◌≤◌, true, false, sym, refl, ap, ◌∙◌, subst, ⊎_elim, arith}
+use Rattle.std.proofs.Common.{◌≡◌, ℕ, zero, suc, ◌+◌, ◌*◌, ◌/◌, ◌<◌, ◌≤◌, true, false, sym, refl, ap, ◌∙◌, subst, ◌⊎◌, inl, inr, ⊎_elim, arith}
 use Rattle.std.proofs.lemmas.Bool.{cases_eq, cases_lt, eq-eqb, ne_eqb, lt-ltb, both_ways}
 use Rattle.space.specs.Places.{lies_by, lies}
 
@@ -39,34 +39,22 @@ pub lies_half : (n m : ℕ) → 0 < n → (n ≡ m → ⊥) → lies n m ≡ lie
 lies_half zero m h ne = absurd (omega arith)
 lies_half (suc n) m h ne = lies_by_half n (suc n) m h ne ∙ lies_fuel n (suc n / 2) (suc n / 2) m (omega arith) (omega arith)
 
--- n lies in no greater place
-lies_by_above : (k n m : ℕ) → n < m → lies_by k n m ≡ false
+-- n lies in no greater place, and nothing lies in 0
+lies_by_off : (k n m : ℕ) → (m ≡ 0) ⊎ (n < m) → lies_by k n m ≡ false
 unfolding lies_by
-lies_by_above zero n m h = refl
-lies_by_above (suc k) n m h =
+lies_by_off zero n m h = refl
+lies_by_off (suc k) n m h =
     ⊎_elim
     (λ z. rw z (lies_by_zero (suc k) m))
-    (λ nz. lies_by_half k n m (omega arith) (λ e. omega arith) ∙ lies_by_above k (n / 2) m (omega arith))
-    (cases_eq n 0)
-
-pub lies_above : (n m : ℕ) → n < m → lies n m ≡ false
-lies_above n m h = lies_by_above n n m h
-
-lies_by_none : (k n : ℕ) → lies_by k n 0 ≡ false
-unfolding lies_by
-lies_by_none zero n = refl
-lies_by_none (suc k) n =
-    ⊎_elim
-    (λ z. rw z (lies_by_zero (suc k) 0))
-    (λ nz. lies_by_half k n 0 (omega arith) nz ∙ lies_by_none k (n / 2))
+    (λ nz. lies_by_half k n m (omega arith) (λ e. ⊎_elim (λ x. omega arith) (λ x. omega arith) h) ∙ lies_by_off k (n / 2) m (⊎_elim (λ x. inl x) (λ x. inr (omega arith)) h))
     (cases_eq n 0)
 
 pub lies_none : (n : ℕ) → lies n 0 ≡ false
-lies_none n = lies_by_none n n
+lies_none n = lies_by_off n n 0 (inl refl)
 
 -- lies is an order: n lies in m only if m ≤ n
 pub lies_le : (n m : ℕ) → lies n m ≡ true → m ≤ n
-lies_le n m e = ⊎_elim (λ lt. absurd (both_ways (lies n m) (lies_above n m lt) e)) (λ le. le) (cases_lt n m)
+lies_le n m e = ⊎_elim (λ lt. absurd (both_ways (lies n m) (lies_by_off n n m (inr lt)) e)) (λ le. le) (cases_lt n m)
 
 pub lies_pos : (n m : ℕ) → lies n m ≡ true → 0 < m
 lies_pos n m l =

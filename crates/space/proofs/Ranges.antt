@@ -7,8 +7,8 @@ use Rattle.space.specs.Places.{lies, overlap, is_place, at_depth, depth_of, size
 use Rattle.space.specs.Meaning.{Meaning, Least, Free, blocked, answers}
 use Rattle.space.proofs.Lies.{lies_each, lies_le, lies_pos}
 use Rattle.space.proofs.Halving.{lies_halved, lies_by_depths, lies_nested}
-use Rattle.space.proofs.Depths.{depth_at, depth_half, depth_bounds, place_of}
-use Rattle.space.proofs.Opening.{no_answer, answer_from, answer_parts, open_parts, open_from, open_below}
+use Rattle.space.proofs.Depths.{depth_at, depth_half, depth_bounds, place_of, place_below}
+use Rattle.space.proofs.Opening.{no_answer, answer_from, answer_parts, open_parts, open_from}
 
 pub size_pos : (d n : ℕ) → 0 < size d n
 size_pos d n = pow_pos (d - depth_of n)
@@ -98,7 +98,7 @@ pub answer_place : (m : Meaning) (w d f k : ℕ) → answers m w d f k ≡ true 
 answer_place m w d f k e =
     let a = answer_parts m w d f k e in
     let le = lies_le k w a.under in
-    let lt = open_below m k a.is in
+    let lt = place_below m.depth k (open_parts m k a.is).at in
     place_of m.depth w (lies_pos k w a.under) (omega arith)
 
 pub answer_high : (m : Meaning) (w d f k : ℕ) → d < depth_of w → answers m w d f k ≡ false
@@ -126,18 +126,11 @@ module _ (m : Meaning) (w d f a : ℕ) (yes : (k : ℕ) → m.rule m.out k ≡ t
       let r = lies_range w d k t.at t.under in
       both_ways (blocked m k) (open_parts m k t.is).free (all (least k t.from r.1) r.2))
 
-  pub none_free : ((j : ℕ) → a ≤ j → j < w * size d w + size d w → blocked m j ≡ true) → (k : ℕ) → answers m w d f k ≡ false
-  none_free all k = range_none k (all k)
-
-  pub first_free : (k : ℕ) → a ≤ k → k < w * size d w + size d w → blocked m k ≡ false → ((j : ℕ) → a ≤ j → j < k → blocked m j ≡ true)
-      → (answers m w d f k ≡ true) × ((j : ℕ) → j < k → answers m w d f j ≡ false)
-  first_free k lo hi free before = (range_answer k lo hi free, λ j lt. range_none j (λ l h. before j l lt))
-
 -- the answer, by what the walk through the range found
 pub found : (m : Meaning) (w d f a e : ℕ) (r : Option ℕ) → MatchOption r ((j : ℕ) → a ≤ j → j < e → blocked m j ≡ true) (Free m a e)
     → ((k : ℕ) → m.rule m.out k ≡ true) → 0 < w → depth_of w ≤ d → d ≤ m.depth → f ≤ a → w * size d w ≤ a
     → ((j : ℕ) → f ≤ j → w * size d w ≤ j → a ≤ j) → e ≡ w * size d w + size d w → Least r (answers m w d f)
 found m w d f a e (Some k) h allowed pos high deep from over least q =
-    first_free m w d f a allowed pos high deep from over least k h.from (omega (arith, h.to)) h.free h.before
+    (range_answer m w d f a allowed pos high deep from over least k h.from (omega (arith, h.to)) h.free, λ j lt. range_none m w d f a allowed pos high deep from over least j (λ lo hi. h.before j lo lt))
 found m w d f a e None h allowed pos high deep from over least q =
-    none_free m w d f a allowed pos high deep from over least (λ j lo hi. h j lo (omega arith))
+    λ k. range_none m w d f a allowed pos high deep from over least k (λ lo hi. h k lo (omega arith))

@@ -94,7 +94,7 @@ module _ (d n : ℕ) (out : Bool) (e : List ℕ) (live : 0 < d) (pl : is_place d
         beyond = λ k off. byte_beyond d e n v k pl off;
       }
 
-module _ (d n : ℕ) (out : Bool) (e b : List ℕ) where
+module _ {d n : ℕ} {out : Bool} {e b : List ℕ} where
   climb_step : (a v : ℕ) → Climb d n out e b a → 0 < a → v ≡ cond (eqb (byte b (2 * a) + byte b (2 * a + 1)) 0) 0 2 → Climb d n out e (set b a v) (a / 2)
   climb_step a v w pos is =
       let p = pow_more d in
@@ -129,7 +129,7 @@ module _ (d n : ℕ) (out : Bool) (e b : List ℕ) where
   pub climb_end : (k : ℕ) → depth_of n < k → Climb d n out e b (n / 2 ^ k) → Tidy d b
   climb_end k lt w j pl = w.rest j pl (λ q. let pos = place_pos d j pl in omega (arith, halved_none n k lt))
 
-pub climb_outs : (d n : ℕ) (out : Bool) (e b : List ℕ) (a : ℕ) → 0 < d → is_place d n ≡ true → Climb d n out e b a
+pub climb_outs : {d n : ℕ} {out : Bool} {e b : List ℕ} {a : ℕ} → 0 < d → is_place d n ≡ true → Climb d n out e b a
     → tree_out d b ≡ cond out (adding (tree_out d e) n) (removing (tree_out d e) n)
-climb_outs d n true e b a live pl w = fun_ext (λ k. let o = w.ones k in grind (arith, nat_tests))
-climb_outs d n false e b a live pl w = fun_ext (λ k. let o = w.ones k in grind (arith, nat_tests))
+climb_outs {out = true} live pl w = fun_ext (λ k. let o = w.ones k in grind (arith, nat_tests))
+climb_outs {out = false} live pl w = fun_ext (λ k. let o = w.ones k in grind (arith, nat_tests))

@@ -2,10 +2,9 @@
 use Rattle.std.proofs.Common.{◌≡◌, ℕ, ◌+◌, ◌^◌, ◌<◌, ◌≤◌, Bool, true, false, cond, not, ◌&&◌, eqb, List, length, take, sym, ap, ◌∙◌, ⊎_elim, arith}
 use Rattle.std.proofs.lemmas.List.FromFn.{fill_by_all}
 use Rattle.std.proofs.lemmas.List.{length-take-le, get_or-take}
-use Rattle.std.proofs.lemmas.Bool.{cases_eq, and_parts, and_from, both_ways, ne_eqb, not_from_false}
+use Rattle.std.proofs.lemmas.Bool.{cases_eq, and_parts, and_from, both_ways, ne_eqb, not_from_false, false_from_ne_true}
 use Rattle.std.proofs.lemmas.Bool.Decides.{nat_tests}
 use Rattle.space.specs.Places.{lies}
-use Rattle.space.proofs.Truth.{false_from}
 use Rattle.space.proofs.Lies.{lies_none}
 use Rattle.tree.specs.Tree.{byte, Tidy, tree_out, others, byte_of, drawn}
 use Rattle.tree.specs.Sound.{out_parts}
@@ -23,7 +22,7 @@ module _ (d : ℕ) (b : List ℕ) (live : 0 < d) (tidy : Tidy d b) (first : byte
       let inside = λ (k : ℕ). lies k n && not (eqb k n) in
       by_cases (tree_out d b n) (others d (tree_out d b) n) (byte b n)
       (λ one. out_from d b n (record { live = live; pos = pos; low = low; one = one }))
-      (λ not-one. false_from (tree_out d b n) (λ e. not-one (out_parts d b n e).one))
+      (λ not-one. false_from_ne_true (tree_out d b n) (λ e. not-one (out_parts d b n e).one))
       (λ z. none_out d b inside (λ k o e. zero_under d b tidy n pos z k o (and_parts (lies k n) _ e).0))
       (λ not-one nz.
       let t = set_has d b tidy n live pos low nz in
@@ -35,7 +34,7 @@ module _ (d : ℕ) (b : List ℕ) (live : 0 < d) (tidy : Tidy d b) (first : byte
   at_zero =
       by_cases (tree_out d b 0) (others d (tree_out d b) 0) (byte b 0)
       (λ one. absurd (omega arith))
-      (λ not-one. false_from (tree_out d b 0) (λ e. not-one (out_parts d b 0 e).one))
+      (λ not-one. false_from_ne_true (tree_out d b 0) (λ e. not-one (out_parts d b 0 e).one))
       (λ z. none_out d b (λ k. lies k 0 && not (eqb k 0)) (λ k o e. both_ways (lies k 0) (lies_none k) (and_parts (lies k 0) _ e).0))
       (λ not-one nz. absurd (nz first))
 

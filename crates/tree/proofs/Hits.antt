@@ -1,11 +1,10 @@
 -- When a place overlaps one that is out, and when one out lies in it, by the bytes.
 use Rattle.std.proofs.Common.{◌≡◌, ℕ, ◌+◌, ◌-◌, ◌*◌, ◌/◌, ◌%◌, ◌^◌, ◌<◌, ◌≤◌, Bool, true, false, not, ◌&&◌, eqb, ltb, List, sym, refl, ap, ◌∙◌, ⊎_elim, arith, pow_mono}
 use Rattle.std.proofs.lemmas.Nat.{shr_le}
-use Rattle.std.proofs.lemmas.Bool.{cases_eq, and_parts, and_from, or_cases, or_left, or_right, both_ways, lt-ltb, ne_eqb, eq-eqb, ltb-true}
+use Rattle.std.proofs.lemmas.Bool.{cases_eq, and_parts, and_from, or_cases, or_left, or_right, both_ways, lt-ltb, ne_eqb, eq-eqb, ltb-true, false_from_ne_true}
 use Rattle.space.specs.Bounded.{some_below}
 use Rattle.space.specs.Places.{lies, overlap, is_place, depth_of, size}
 use Rattle.space.specs.Meaning.{blocked, is_open, is_busy}
-use Rattle.space.proofs.Truth.{false_from}
 use Rattle.space.proofs.Below.{some_here, some_none, none_below}
 use Rattle.space.proofs.Opening.{open_parts}
 use Rattle.space.proofs.Lies.{lies_le, lies_pos}
@@ -27,7 +26,7 @@ module _ (d : ℕ) (b : List ℕ) (p : ℕ → Bool) where
   pub none_out : ((k : ℕ) → Out d b k → p k ≡ true → ⊥) → some_below (2 ^ (d + 1)) (λ j. tree_out d b j && p j) ≡ false
   none_out never =
       none_below (2 ^ (d + 1)) (λ j. tree_out d b j && p j)
-      (λ k lt. false_from (tree_out d b k && p k) (λ e. let t = and_parts (tree_out d b k) _ e in never k (out_parts d b k t.0) t.1))
+      (λ k lt. false_from_ne_true (tree_out d b k && p k) (λ e. let t = and_parts (tree_out d b k) _ e in never k (out_parts d b k t.0) t.1))
 
 -- where n halved k times is out, all places of n's depth in it overlap that, from n to the last
 pub hit_row : (d : ℕ) (b : List ℕ) (n k : ℕ) → 0 < d → d ≤ 12 → is_place d n ≡ true → k ≤ depth_of n → byte b (n / 2 ^ k) ≡ 1
@@ -85,10 +84,7 @@ module _ (d : ℕ) (b : List ℕ) (live : 0 < d) (tidy : Tidy d b) where
       (λ nz. let t = set_has d b tidy w live pos low nz in rw (ne_eqb (byte b w) 0 nz) (sym (some_out d b (λ j. lies j w) t.0 t.1 t.2)))
       (cases_eq (byte b w) 0)
 
--- what is open has a tree, and no place out overlaps it
-pub open_live : (d : ℕ) (b : List ℕ) (n : ℕ) → is_open (tree_meaning d b) n ≡ true → 0 < d
-open_live d b n e = ltb-true 0 d (open_parts (tree_meaning d b) n e).allowed
-
+-- no place out overlaps what is open
 pub open_apart : (d : ℕ) (b : List ℕ) (n : ℕ) → is_open (tree_meaning d b) n ≡ true → (k : ℕ) → tree_out d b k ≡ true → overlap k n ≡ true → k ≡ n
 open_apart d b n e k out over =
     let none = some_none (2 ^ (d + 1)) (λ j. tree_out d b j && overlap j n) (open_parts (tree_meaning d b) n e).free k (out_parts d b k out).low in

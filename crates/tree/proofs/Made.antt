@@ -2,9 +2,8 @@
 use Rattle.std.proofs.Common.{◌≡◌, ℕ, ◌+◌, ◌*◌, ◌^◌, ◌<◌, ◌≤◌, true, false, List, ◌++◌, replicate, arith}
 use mathlib.Core.Path.{fun_ext}
 use Rattle.std.proofs.lemmas.List.{get_or_append_left, get_or-replicate, length-replicate}
-use Rattle.std.proofs.lemmas.Bool.{and_from, lt-ltb, le-leb}
+use Rattle.std.proofs.lemmas.Bool.{and_from, lt-ltb, le-leb, false_from_ne_true}
 use Rattle.space.specs.Meaning.{fresh}
-use Rattle.space.proofs.Truth.{false_from}
 use Rattle.space.proofs.Depths.{pow_more, place_below}
 use Rattle.tree.specs.Tree.{byte, Tidy, tree_out, tree_meaning, room}
 use Rattle.tree.specs.Sound.{out_parts}
@@ -18,7 +17,7 @@ module _ (d : ℕ) (b : List ℕ) (clear : (k : ℕ) → k < 2 ^ (d + 1) → byt
       low_node d b n (omega (arith, clear n low)) (λ lt. omega (arith, clear (2 * n) (omega arith), clear (2 * n + 1) (omega arith)))
 
   none_out : (n : ℕ) → tree_out d b n ≡ false
-  none_out n = false_from (tree_out d b n) (λ e. let o = out_parts d b n e in let z = clear n o.low in omega (arith, o.one))
+  none_out n = false_from_ne_true (tree_out d b n) (λ e. let o = out_parts d b n e in let z = clear n o.low in omega (arith, o.one))
 
   pub fresh_wiped : 0 < d → tree_meaning d b ≡ fresh d
   fresh_wiped live = λ i. record { depth = d; out = fun_ext none_out i; rule = λ p n. lt-ltb 0 d live i }

@@ -20,7 +20,7 @@ module _ (d : ℕ) (b : List ℕ) (tidy : Tidy d b) where
       let p = pow_more d in
       rw (lt-ltb n (2 ^ d) lt) at (tidy n (place_of d n pos (omega arith)))
 
-  child : (k : ℕ) → 1 < k → k < 2 ^ (d + 1) → byte b (k / 2) < 2 → byte b k ≡ 0
+  pub child : (k : ℕ) → 1 < k → k < 2 ^ (d + 1) → byte b (k / 2) < 2 → byte b k ≡ 0
   child k pos lt low =
       let p = pow_more d in
       let s = agrees_low (byte b (k / 2)) _ (inner (k / 2) (omega arith) (omega arith)) low in

@@ -66,7 +66,7 @@ impl<'a> BuddyTree<'a> {
         ensures named { self.new.bytes.ghost_name ≡ self.old.bytes.ghost_name }
         ensures beyond { (k : ℕ) → 2 ^ (self.old.depth + 1) ≤ k → byte self.new.bytes.now k ≡ byte self.old.bytes.now k }
     {
-        // By the bytes alone, since they are not tidy before the walk up has come to its end.
+        // Works on the bytes and not on `self`: they are not tidy until the walk up ends.
         let b = &mut *self.bytes;
         b[n] = u8::from(out);
         for k in 1..=depth_of(n) {
@@ -84,7 +84,7 @@ impl<'a> BuddyTree<'a> {
         (1..=depth_of(n)).find(|k| self.bytes[n >> *k] == 1)
     }
 
-    // Nothing if n overlaps no place out; else a place from n on up to which every one overlaps a place out.
+    // Nothing where n overlaps no place out; else a number from n on, up to which every place overlaps one.
     // Where a place above n is out, that is the last of n's depth in it, so that a search leaves it in one step.
     fn obstacle(&self, n: usize) -> Option<usize>
         requires live { 0 < self.now.depth }

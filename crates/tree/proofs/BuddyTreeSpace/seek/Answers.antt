@@ -1,21 +1,20 @@
 use Rattle.std.proofs.Common.{◌+◌, ◌≤◌, sym, arith, pow_mono}
-use Rattle.std.proofs.lemmas.Bool.{lt-ltb}
+use Rattle.std.proofs.lemmas.Bool.{lt-ltb, ltb-true, false_from_ne_true}
 use Rattle.std.proofs.lemmas.Bool.Decides.{nat_tests}
 use Rattle.space.specs.Meaning.{answers}
-use Rattle.space.proofs.Truth.{false_from}
-use Rattle.space.proofs.Opening.{answer_parts, too_deep}
+use Rattle.space.proofs.Opening.{open_parts, answer_parts, too_deep}
 use Rattle.space.proofs.Ranges.{range_within, answer_place, answer_high, found}
 use Rattle.tree.specs.Tree.{tree_meaning}
-use Rattle.tree.proofs.Hits.{open_live, within_parts}
+use Rattle.tree.proofs.Hits.{within_parts}
 use Rattle.tree.proofs.BuddyTreeSpace.seek.Goals as goal
 
 pub returns-then-not-has : goal.returns-then-not-has
-returns-then-not-has c = λ k. false_from (answers (tree_meaning c.args.self.now.depth c.args.self.now.bytes.now) c.args.w c.args.d c.args.f k) (λ e.
+returns-then-not-has c = λ k. false_from_ne_true (answers (tree_meaning c.args.self.now.depth c.args.self.now.bytes.now) c.args.w c.args.d c.args.f k) (λ e.
     let s = c.args.self.now in
     let m = tree_meaning s.depth s.bytes.now in
     let place = answer_place m c.args.w c.args.d c.args.f k e in
     let deep = too_deep m c.args.w c.args.d c.args.f k in
-    let live = open_live s.depth s.bytes.now k (answer_parts m c.args.w c.args.d c.args.f k e).is in
+    let live = ltb-true 0 s.depth (open_parts m k (answer_parts m c.args.w c.args.d c.args.f k e).is).allowed in
     grind (arith, nat_tests))
 
 pub returns-in_err-places : goal.returns-in_err-places
