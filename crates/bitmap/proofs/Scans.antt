@@ -1,19 +1,28 @@
 -- What a scan of the words says of a place.
-use Rattle.std.proofs.Common.{◌≡◌, ℕ, ◌+◌, ◌-◌, ◌*◌, ◌^◌, ◌<◌, ◌≤◌, true, false, not, ◌&&◌, eqb, List, sym, ap, ◌∙◌, ⊎_elim, arith}
-use Rattle.std.proofs.lemmas.Bool.{cases_eq, cases_Bool, and_parts, and_from, both_ways, lt-ltb}
+use Rattle.std.proofs.Common.{◌≡◌, ℕ, ◌+◌, ◌-◌, ◌*◌, ◌^◌, ◌<◌, ◌≤◌, true, false, not, ◌&&◌, List, Option, None, Some, MatchOption, is_some, Bool, refl, sym, ap, ◌∙◌, ⊎_elim, arith}
+use Rattle.std.proofs.lemmas.Bool.{cases_Bool, and_parts, and_from, both_ways, lt-ltb, false_from_ne_true}
 use Rattle.std.proofs.lemmas.Bool.Decides.{nat_tests}
 use Rattle.space.specs.Places.{is_place, size, lies}
 use Rattle.space.specs.Meaning.{blocked, is_open, is_busy}
-use Rattle.space.proofs.Truth.{false_from, same_test}
+use Rattle.space.proofs.Truth.{same_test}
 use Rattle.space.proofs.Below.{none_below}
 use Rattle.space.proofs.Lies.{lies_le, lies_pos}
 use Rattle.space.proofs.Depths.{place_of, place_below}
 use Rattle.bits.specs.Bit.{bit}
-use Rattle.bitmap.specs.Map.{has, Spans, first, share, marked, starts, map_out, map_meaning, Kept, Tidy}
+use Rattle.bitmap.specs.Map.{has, first, share, marked, starts, map_out, map_meaning, Kept, Tidy}
 use Rattle.space.proofs.Ranges.{size_pos}
 use Rattle.bitmap.specs.Whole.{span, out_of, of_out}
 use Rattle.bitmap.proofs.Units.{holder, hit_none, hit_some, busy_none, busy_some, busy_part}
 use Rattle.bitmap.proofs.Words.{share_fits, marked-bit, starts-bit, kept_of, borne_of, has_parts}
+
+-- what the answer of a scan says, by whether there is one
+pub at_none : (o : Option ℕ) (P : Type 0) (Q : ℕ → Type 0) → MatchOption o P Q → is_some o ≡ false → P
+at_none None P Q m e = m
+at_none (Some i) P Q m e = absurd (both_ways true e refl)
+
+pub at_some : (o : Option ℕ) (P : Type 0) (Q : ℕ → Type 0) → MatchOption o P Q → is_some o ≡ true → (i : ℕ) × Q i
+at_some None P Q m e = absurd (both_ways false refl e)
+at_some (Some i) P Q m e = (i, m)
 
 module _ (d : ℕ) (ws : List ℕ) (n : ℕ) (at : is_place d n ≡ true) where
   -- the bits of the units of n
@@ -25,16 +34,16 @@ module _ (d : ℕ) (ws : List ℕ) (n : ℕ) (at : is_place d n ≡ true) where
 
   -- n is not out
   pub out_no_start : bit ws (64 * share d + first d n) ≡ false → map_out d (marked d ws) (starts d ws) n ≡ false
-  out_no_start f = false_from (map_out d (marked d ws) (starts d ws) n) (λ e.
+  out_no_start f = false_from_ne_true (map_out d (marked d ws) (starts d ws) n) (λ e.
       let s = size_pos d n in
       both_ways (bit ws (64 * share d + first d n)) f (sym (here_starts (first d n) (omega arith)) ∙ (out_of d (marked d ws) (starts d ws) n e).is.start))
 
   pub out_gap : (u : ℕ) → first d n ≤ u → u < first d n + size d n → bit ws u ≡ false → map_out d (marked d ws) (starts d ws) n ≡ false
-  out_gap u lo hi f = false_from (map_out d (marked d ws) (starts d ws) n) (λ e.
+  out_gap u lo hi f = false_from_ne_true (map_out d (marked d ws) (starts d ws) n) (λ e.
       both_ways (bit ws u) f (sym (here_marked u hi) ∙ (out_of d (marked d ws) (starts d ws) n e).is.full u lo hi))
 
   pub out_second : (i : ℕ) → 64 * share d + first d n + 1 ≤ i → i < 64 * share d + (first d n + size d n) → bit ws i ≡ true → map_out d (marked d ws) (starts d ws) n ≡ false
-  out_second i lo hi t = false_from (map_out d (marked d ws) (starts d ws) n) (λ e.
+  out_second i lo hi t = false_from_ne_true (map_out d (marked d ws) (starts d ws) n) (λ e.
       let b = 64 * share d in
       let q : b + (i - b) ≡ i = omega arith in
       both_ways (starts d ws (i - b)) ((out_of d (marked d ws) (starts d ws) n e).is.single (i - b) (omega arith) (omega arith)) (here_starts (i - b) (omega arith) ∙ ap (bit ws) q ∙ t))
@@ -86,21 +95,24 @@ module _ (d : ℕ) (ws : List ℕ) (n : ℕ) (at : is_place d n ≡ true) where
         (λ x. let b = busy_some d (marked d ws) (starts d ws) n at kept borne (i - b) (omega arith) (omega arith) st (λ c. grind (arith, nat_tests)) in grind (arith, nat_tests))
         (cases_Bool (marked d ws e && not (starts d ws e)))
 
--- n is open where the first of its bits that is set is past them
-pub open_from : (d : ℕ) (ws : List ℕ) (n a e r : ℕ) → has d n ≡ true → Spans d n a e → (0 < d → Tidy d ws)
-    → r ≤ e → ((u : ℕ) → a ≤ u → u < r → bit ws u ≡ false) → (r < e → (a ≤ r) × (bit ws r ≡ true)) → eqb r e ≡ is_open (map_meaning d ws) n
-open_from d ws n a e r h s tidy hi before found =
+-- n is open where none of its bits is set
+pub open_from : (d : ℕ) (ws : List ℕ) (n a e : ℕ) (o : Option ℕ) (r : Bool) → has d n ≡ true → (0 < d → Tidy d ws)
+    → MatchOption o ((k : ℕ) → a ≤ k → k < e → bit ws k ≡ false) (λ i. (a ≤ i) × (i < e) × (bit ws i ≡ true) × ((k : ℕ) → a ≤ k → k < i → bit ws k ≡ false))
+    → is_some o ≡ not r → a ≡ first d n → e ≡ first d n + size d n → r ≡ is_open (map_meaning d ws) n
+open_from d ws n a e None r h tidy m q from to =
     let p = has_parts d n h in
-    ⊎_elim
-    (λ q. let b = hit_clear d ws n p.1 (tidy p.0) (λ u x y. before u (omega (arith, s.from)) (omega (arith, s.to))) in grind (arith, nat_tests))
-    (λ ne. let f = found (omega arith) in let b = hit_at d ws n p.1 (tidy p.0) r (omega (arith, f.0, s.from)) (omega (arith, s.to)) f.1 in grind (arith, nat_tests))
-    (cases_eq r e)
+    let b = hit_clear d ws n p.1 (tidy p.0) (λ u x y. m u (omega (arith, from)) (omega (arith, to))) in
+    grind (arith, nat_tests)
+open_from d ws n a e (Some i) r h tidy m q from to =
+    let p = has_parts d n h in
+    let b = hit_at d ws n p.1 (tidy p.0) i (omega (arith, m.0, from)) (omega (arith, m.1, to)) m.2 in
+    grind (arith, nat_tests)
 
 -- nothing is busy outside the map
 pub busy_off : (d : ℕ) (ws : List ℕ) (w : ℕ) → has d w ≡ false → is_busy (map_meaning d ws) w ≡ false
 busy_off d ws w outside =
     none_below (2 ^ (d + 1)) (λ k. map_out d (marked d ws) (starts d ws) k && lies k w)
-    (λ k lt. false_from (map_out d (marked d ws) (starts d ws) k && lies k w) (λ e.
+    (λ k lt. false_from_ne_true (map_out d (marked d ws) (starts d ws) k && lies k w) (λ e.
     let t = and_parts (map_out d (marked d ws) (starts d ws) k) _ e in
     let o = out_of d (marked d ws) (starts d ws) k t.0 in
     let le = lies_le k w t.1 in

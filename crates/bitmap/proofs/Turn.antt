@@ -1,29 +1,36 @@
 -- A place is taken or given in the two rows of bits: what else is out stays out.
 use Rattle.std.proofs.Common.{◌≡◌, ℕ, ◌+◌, ◌-◌, ◌<◌, ◌≤◌, Bool, true, false, cond, ◌⊎◌, sym, ap, ◌∙◌, inl, inr, ⊎_elim, arith}
 use mathlib.Core.Path.{fun_ext}
-use Rattle.std.proofs.lemmas.Bool.{cases_eq, cases_lt, both_ways}
+use Rattle.std.proofs.lemmas.Bool.{cases_eq, cases_lt, both_ways, false_from_ne_true}
 use Rattle.std.proofs.lemmas.Bool.Decides.{nat_tests}
 use Rattle.space.specs.Places.{is_place, size}
 use Rattle.space.specs.Meaning.{adding, removing}
-use Rattle.space.proofs.Truth.{false_from, same_test}
+use Rattle.space.proofs.Truth.{same_test}
 use Rattle.bits.specs.Bit.{within}
 use Rattle.bitmap.specs.Map.{first, map_out, Kept, Borne}
 use Rattle.space.proofs.Ranges.{size_pos}
-use Rattle.bitmap.specs.Whole.{shared, Whole, Out, out_of, of_out, apart}
+use Rattle.bitmap.specs.Whole.{shared, Out, out_of, of_out, apart}
 use Rattle.bitmap.proofs.Units.{holder, held_by}
 
 -- a unit is before, in or behind a run
 where_is : (a s u : ℕ) → ((a ≤ u) × (u < a + s)) ⊎ ((u < a) ⊎ (a + s ≤ u))
 where_is a s u = ⊎_elim (λ lt. inr (inl lt)) (λ ge. ⊎_elim (λ lt. inl (ge, lt)) (λ le. inr (inr le)) (cases_lt u (a + s))) (cases_lt u a)
 
--- bits that say the same of a run make the same whole of it, if what follows it stays in that
-same_whole : (cov st cov' st' : ℕ → Bool) (a s : ℕ) → 0 < s → Whole cov st a s → ((u : ℕ) → a ≤ u → u < a + s → (cov' u ≡ cov u) × (st' u ≡ st u)) → (cov' (a + s) ≡ true → st' (a + s) ≡ true) → Whole cov' st' a s
-same_whole cov st cov' st' a s pos w same e = record {
-  start = (same a (omega arith) (omega arith)).1 ∙ w.start;
-  full = λ u lo hi. (same u lo hi).0 ∙ w.full u lo hi;
-  single = λ u lo hi. (same u (omega arith) hi).1 ∙ w.single u lo hi;
-  ends = e;
-}
+-- a place out stays out by bits that say the same of its units, if what follows them stays in that
+same_out : (d : ℕ) (cov st cov' st' : ℕ → Bool) (k : ℕ) → Out d cov st k → ((u : ℕ) → first d k ≤ u → u < first d k + size d k → (cov' u ≡ cov u) × (st' u ≡ st u))
+    → (cov' (first d k + size d k) ≡ true → st' (first d k + size d k) ≡ true) → Out d cov' st' k
+same_out d cov st cov' st' k o same e =
+    let s = size_pos d k in
+    record {
+      live = o.live;
+      at = o.at;
+      is = record {
+        start = (same (first d k) (omega arith) (omega arith)).1 ∙ o.is.start;
+        full = λ u lo hi. (same u lo hi).0 ∙ o.is.full u lo hi;
+        single = λ u lo hi. (same u (omega arith) hi).1 ∙ o.is.single u lo hi;
+        ends = e;
+      };
+    }
 
 -- the units of n are marked and its first is a start, where out is true, and both are cleared where it is false
 module _ (d : ℕ) (cov st cov' st' : ℕ → Bool) (n : ℕ) (out : Bool)
@@ -41,8 +48,12 @@ module _ (d : ℕ) (cov st cov' st' : ℕ → Bool) (n : ℕ) (out : Bool)
   off_st : (u : ℕ) → (u ≡ first d n → ⊥) → st' u ≡ st u
   off_st u ne = let c = sts u in grind (arith, nat_tests)
 
-  -- a place with no unit in n has its old bits
-  same_bits : (k : ℕ) → ((u : ℕ) → first d k ≤ u → u < first d k + size d k → first d n ≤ u → u < first d n + size d n → ⊥) → (u : ℕ) → first d k ≤ u → u < first d k + size d k → (cov' u ≡ cov u) × (st' u ≡ st u)
+  -- k has no unit in n
+  abbrev Off : ℕ → Type 0
+  Off k = (u : ℕ) → first d k ≤ u → u < first d k + size d k → first d n ≤ u → u < first d n + size d n → ⊥
+
+  -- such a place has its old bits
+  same_bits : (k : ℕ) → Off k → (u : ℕ) → first d k ≤ u → u < first d k + size d k → (cov' u ≡ cov u) × (st' u ≡ st u)
   same_bits k none u lo hi =
       let x = none u lo hi in
       let c = covs u in
@@ -53,9 +64,6 @@ module _ (d : ℕ) (cov st cov' st' : ℕ → Bool) (n : ℕ) (out : Bool)
   -- n is taken
   module _ (yes : out ≡ true) (live : 0 < d) (at : is_place d n ≡ true) (kept : Kept d cov st) (borne : Borne cov st)
       (clear : (u : ℕ) → first d n ≤ u → u < first d n + size d n → cov u ≡ false) where
-    grown : (u : ℕ) → cov u ≡ true → cov' u ≡ true
-    grown u c = let x = covs u in grind (arith, nat_tests)
-
     own : Out d cov' st' n
     own =
         let sn = size_pos d n in
@@ -66,7 +74,7 @@ module _ (d : ℕ) (cov st cov' st' : ℕ → Bool) (n : ℕ) (out : Bool)
           is = record {
             start = at_st ∙ yes;
             full = λ u lo hi. in_cov u lo hi ∙ yes;
-            single = λ u lo hi. off_st u (λ q. omega arith) ∙ false_from (st u) (λ s. both_ways (cov u) (clear u (omega arith) hi) (borne u s));
+            single = λ u lo hi. off_st u (λ q. omega arith) ∙ false_from_ne_true (st u) (λ s. both_ways (cov u) (clear u (omega arith) hi) (borne u s));
             ends = λ c.
                 let h = holder d cov st kept e (sym (off_cov e (inr (omega arith))) ∙ c) in
                 let k = h.who in
@@ -85,26 +93,18 @@ module _ (d : ℕ) (cov st cov' st' : ℕ → Bool) (n : ℕ) (out : Bool)
         let sk = size_pos d k in
         let sn = size_pos d n in
         let e = first d k + size d k in
-        let none : (u : ℕ) → first d k ≤ u → u < first d k + size d k → first d n ≤ u → u < first d n + size d n → ⊥ = λ u a b x y. both_ways (cov u) (clear u x y) (o.is.full u a b) in
-        record {
-          live = live;
-          at = o.at;
-          is = same_whole cov st cov' st' (first d k) (size d k) sk o.is (same_bits k none)
-              (λ c. let before = none (e - 1) in let follows = o.is.ends in let x = covs e in let y = sts e in grind (arith, nat_tests));
-        }
+        let none : Off k = λ u a b x y. both_ways (cov u) (clear u x y) (o.is.full u a b) in
+        same_out d cov st cov' st' k o (same_bits k none)
+        (λ c. let before = none (e - 1) in let follows = o.is.ends in let x = covs e in let y = sts e in grind (arith, nat_tests))
 
     was : (k : ℕ) → (k ≡ n → ⊥) → Out d cov' st' k → Out d cov st k
     was k ne o =
         let sk = size_pos d k in
         let sn = size_pos d n in
         let e = first d k + size d k in
-        let none : (u : ℕ) → first d k ≤ u → u < first d k + size d k → first d n ≤ u → u < first d n + size d n → ⊥ = λ u a b x y. ne (apart d cov' st' k n o own (shared d k n u o.at at a b x y)) in
-        record {
-          live = live;
-          at = o.at;
-          is = same_whole cov' st' cov st (first d k) (size d k) sk o.is (λ u lo hi. let t = same_bits k none u lo hi in (sym t.0, sym t.1))
-              (λ c. let at_n = clear e in let follows = o.is.ends in let x = covs e in let y = sts e in grind (arith, nat_tests));
-        }
+        let none : Off k = λ u a b x y. ne (apart d cov' st' k n o own (shared d k n u o.at at a b x y)) in
+        same_out d cov' st' cov st k o (λ u lo hi. let t = same_bits k none u lo hi in (sym t.0, sym t.1))
+        (λ c. let at_n = clear e in let follows = o.is.ends in let x = covs e in let y = sts e in grind (arith, nat_tests))
 
     taken_out : map_out d cov' st' ≡ adding (map_out d cov st) n
     taken_out = fun_ext λ k.
@@ -138,31 +138,23 @@ module _ (d : ℕ) (cov st cov' st' : ℕ → Bool) (n : ℕ) (out : Bool)
         let sk = size_pos d k in
         let sn = size_pos d n in
         let e = first d k + size d k in
-        let none : (u : ℕ) → first d k ≤ u → u < first d k + size d k → first d n ≤ u → u < first d n + size d n → ⊥ = λ u a b x y. ne (apart d cov st k n o was_out (shared d k n u o.at was_out.at a b x y)) in
-        record {
-          live = o.live;
-          at = o.at;
-          is = same_whole cov st cov' st' (first d k) (size d k) sk o.is (same_bits k none)
-              (λ c. let follows = o.is.ends in let x = covs e in let y = sts e in grind (arith, nat_tests));
-        }
+        let none : Off k = λ u a b x y. ne (apart d cov st k n o was_out (shared d k n u o.at was_out.at a b x y)) in
+        same_out d cov st cov' st' k o (same_bits k none)
+        (λ c. let follows = o.is.ends in let x = covs e in let y = sts e in grind (arith, nat_tests))
 
     had : (k : ℕ) → Out d cov' st' k → Out d cov st k
     had k o =
         let sk = size_pos d k in
         let sn = size_pos d n in
         let e = first d k + size d k in
-        let none : (u : ℕ) → first d k ≤ u → u < first d k + size d k → first d n ≤ u → u < first d n + size d n → ⊥ = λ u a b x y. both_ways (cov' u) (in_cov u x y ∙ no) (o.is.full u a b) in
-        record {
-          live = o.live;
-          at = o.at;
-          is = same_whole cov' st' cov st (first d k) (size d k) sk o.is (λ u lo hi. let t = same_bits k none u lo hi in (sym t.0, sym t.1))
-              (λ c. let before = none (e - 1) in let follows = o.is.ends in let x = covs e in let y = sts e in let start = was_out.is.start in grind (arith, nat_tests));
-        }
+        let none : Off k = λ u a b x y. both_ways (cov' u) (in_cov u x y ∙ no) (o.is.full u a b) in
+        same_out d cov' st' cov st k o (λ u lo hi. let t = same_bits k none u lo hi in (sym t.0, sym t.1))
+        (λ c. let before = none (e - 1) in let follows = o.is.ends in let x = covs e in let y = sts e in let start = was_out.is.start in grind (arith, nat_tests))
 
     given_out : map_out d cov' st' ≡ removing (map_out d cov st) n
     given_out = fun_ext λ k.
         ⊎_elim
-        (λ e. let o = ap (map_out d cov' st') e ∙ false_from (map_out d cov' st' n) (λ x. both_ways (st' (first d n)) (at_st ∙ no) (out_of d cov' st' n x).is.start) in grind (arith, nat_tests))
+        (λ e. let o = ap (map_out d cov' st') e ∙ false_from_ne_true (map_out d cov' st' n) (λ x. both_ways (st' (first d n)) (at_st ∙ no) (out_of d cov' st' n x).is.start) in grind (arith, nat_tests))
         (λ ne. let o = same_test (map_out d cov' st' k) (map_out d cov st k) (λ x. of_out d cov st k (had k (out_of d cov' st' k x))) (λ x. of_out d cov' st' k (remains k ne (out_of d cov st k x))) in grind (arith, nat_tests))
         (cases_eq k n)
 

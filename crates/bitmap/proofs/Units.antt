@@ -1,10 +1,9 @@
 -- Whose a marked unit is, and what that says of a place.
 use Rattle.std.proofs.Common.{◌≡◌, ℕ, ◌+◌, ◌-◌, ◌^◌, ◌<◌, ◌≤◌, Bool, true, false, ◌&&◌, sym, ap, ◌∙◌, ⊎_elim, arith}
-use Rattle.std.proofs.lemmas.Bool.{cases_lt, and_parts, and_from, or_cases, both_ways}
+use Rattle.std.proofs.lemmas.Bool.{cases_lt, and_parts, and_from, or_cases, both_ways, false_from_ne_true}
 use Rattle.std.proofs.lemmas.Bool.Decides.{nat_tests}
 use Rattle.space.specs.Bounded.{some_below}
 use Rattle.space.specs.Places.{lies, overlap, is_place, size}
-use Rattle.space.proofs.Truth.{false_from}
 use Rattle.space.proofs.Depths.{place_below, place_pos}
 use Rattle.space.proofs.Lies.{lies_self}
 use Rattle.space.proofs.Below.{some_here, some_has, none_below}
@@ -46,14 +45,14 @@ module _ (d : ℕ) (cov st : ℕ → Bool) (n : ℕ) (at : is_place d n ≡ true
       (or_cases (lies k n) (lies n k) l)
 
   -- no unit of n is marked: n overlaps nothing
-  pub clear_free : ((u : ℕ) → first d n ≤ u → u < first d n + size d n → cov u ≡ false) → (k : ℕ) → Out d cov st k → overlap k n ≡ true → ⊥
-  clear_free clear k o l = let t = meets_in k o l in both_ways (cov t.0) (clear t.0 t.1 t.2) (o.is.full t.0 t.3 t.4)
-
   pub hit_none : ((u : ℕ) → first d n ≤ u → u < first d n + size d n → cov u ≡ false) → some_below (2 ^ (d + 1)) (λ k. map_out d cov st k && overlap k n) ≡ false
   hit_none clear =
       none_below (2 ^ (d + 1)) (λ k. map_out d cov st k && overlap k n)
-      (λ k lt. false_from (map_out d cov st k && overlap k n) (λ e.
-      let t = and_parts (map_out d cov st k) _ e in clear_free clear k (out_of d cov st k t.0) t.1))
+      (λ k lt. false_from_ne_true (map_out d cov st k && overlap k n) (λ e.
+      let t = and_parts (map_out d cov st k) _ e in
+      let o = out_of d cov st k t.0 in
+      let m = meets_in k o t.1 in
+      both_ways (cov m.0) (clear m.0 m.1 m.2) (o.is.full m.0 m.3 m.4)))
 
   pub hit_some : (u : ℕ) → first d n ≤ u → u < first d n + size d n → Holder d cov st u → some_below (2 ^ (d + 1)) (λ k. map_out d cov st k && overlap k n) ≡ true
   hit_some u lo hi h =
@@ -78,18 +77,15 @@ module _ (d : ℕ) (cov st : ℕ → Bool) (n : ℕ) (at : is_place d n ≡ true
       let own : u ≡ first d k = ⊎_elim (λ lt. absurd (both_ways (st u) (o.is.single u lt h.to) s)) (λ ge. let f = h.from in omega arith) (cases_lt (first d k) u) in
       ⊎_elim
       (λ lt. absurd (both_ways (st (first d n + size d n)) (o.is.single (first d n + size d n) (omega arith) lt) (e (o.is.full (first d n + size d n) (omega arith) lt))))
-      (λ ge. let q = same_run k o x (omega arith) (omega arith) in ap (λ z. lies z n) q ∙ lies_self n (place_pos d n at))
+      (λ ge. let q = sym (same_place d n k at o.at (omega arith) (omega arith)) in ap (λ z. lies z n) q ∙ lies_self n (place_pos d n at))
       (cases_lt (first d n + size d n) (first d k + size d k)))
       (or_cases (lies k n) (lies n k) (shared d k n u o.at at h.from h.to lo hi))))
-    where
-      same_run : (k : ℕ) → Out d cov st k → lies n k ≡ true → first d n ≡ first d k → first d n + size d n ≡ first d k + size d k → k ≡ n
-      same_run k o x f z = sym (same_place d n k at o.at f (omega arith))
 
   -- no start in n: no place out lies in n
   pub busy_none : ((u : ℕ) → first d n ≤ u → u < first d n + size d n → st u ≡ false) → some_below (2 ^ (d + 1)) (λ k. map_out d cov st k && lies k n) ≡ false
   busy_none clear =
       none_below (2 ^ (d + 1)) (λ k. map_out d cov st k && lies k n)
-      (λ k lt. false_from (map_out d cov st k && lies k n) (λ e.
+      (λ k lt. false_from_ne_true (map_out d cov st k && lies k n) (λ e.
       let t = and_parts (map_out d cov st k) _ e in
       let o = out_of d cov st k t.0 in
       let g = nested d k n o.at at t.1 in
@@ -105,7 +101,7 @@ module _ (d : ℕ) (cov st : ℕ → Bool) (n : ℕ) (at : is_place d n ≡ true
       let sn = size_pos d n in
       let before : first d m < e = ⊎_elim (λ lt. lt) (λ ge. absurd (both_ways (st e) s (ap st (let q : e ≡ first d m = (let f = h.from in omega arith) in q) ∙ h.out.is.start))) (cases_lt (first d m) e) in
       none_below (2 ^ (d + 1)) (λ k. map_out d cov st k && lies k n)
-      (λ k lt. false_from (map_out d cov st k && lies k n) (λ b.
+      (λ k lt. false_from_ne_true (map_out d cov st k && lies k n) (λ b.
       let t = and_parts (map_out d cov st k) _ b in
       let o = out_of d cov st k t.0 in
       let g = nested d k n o.at at t.1 in

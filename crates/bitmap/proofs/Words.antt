@@ -1,20 +1,16 @@
 -- From the words to the two rows of bits.
-use Rattle.std.proofs.Common.{◌≡◌, ℕ, ◌+◌, ◌-◌, ◌*◌, ◌/◌, ◌%◌, ◌^◌, ◌<◌, ◌≤◌, Bool, true, false, cond, ◌&&◌, List, ◌++◌, get_or, drop, replicate, ap, ◌∙◌, ⊎_elim, arith, pow_mono}
+use Rattle.std.proofs.Common.{◌≡◌, ℕ, ◌+◌, ◌-◌, ◌*◌, ◌/◌, ◌%◌, ◌^◌, ◌<◌, ◌≤◌, Bool, true, false, cond, ◌&&◌, List, ◌++◌, get_or, drop, replicate, ap, ◌∙◌, ⊎_elim, arith}
 use mathlib.Core.Path.{fun_ext}
-use Rattle.std.proofs.lemmas.Bool.{cases_lt, both_ways, lt-ltb}
+use Rattle.std.proofs.lemmas.Bool.{cases_lt, both_ways, lt-ltb, false_from_ne_true}
 use Rattle.std.proofs.lemmas.Bool.Decides.{nat_tests}
 use Rattle.std.proofs.lemmas.List.{get_or_append_left, get_or-replicate, length-replicate}
 use Rattle.std.proofs.lemmas.Nat.{pow-add, pow_below}
-use Rattle.space.specs.Places.{is_place, size}
+use Rattle.space.specs.Places.{is_place}
 use Rattle.space.specs.Meaning.{fresh}
 use Rattle.bits.specs.Bit.{on, bit, within}
 use Rattle.bits.proofs.Digits.{on_zero}
-use Rattle.space.proofs.Truth.{false_from}
-use Rattle.bitmap.specs.Map.{has, Spans, share, first, marked, starts, map_out, map_meaning, Kept, Borne, sits, Tidy, Marks}
+use Rattle.bitmap.specs.Map.{has, share, first, marked, starts, map_out, map_meaning, Kept, Borne, sits, Tidy, Marks}
 use Rattle.bitmap.specs.Whole.{out_of}
-
-pub pow_12 : (d : ℕ) → d ≤ 12 → 2 ^ d ≤ 4096
-pow_12 d le = pow_mono le
 
 -- a share has a bit for each unit
 pub share_fits : (d : ℕ) → 2 ^ d ≤ 64 * share d
@@ -44,10 +40,6 @@ module _ (d : ℕ) (cov st : ℕ → Bool) where
 
 pub has_parts : (d n : ℕ) → has d n ≡ true → (0 < d) × (is_place d n ≡ true)
 has_parts d n h = (grind (arith, nat_tests), grind (arith, nat_tests))
-
--- the units that were marked are those of n
-pub marks_of : (d n a e : ℕ) (out : Bool) (ws vs : List ℕ) → Spans d n a e → Marks d a e out ws vs → Marks d (first d n) (first d n + size d n) out ws vs
-marks_of d n a e out ws vs s bits = rw (← s.to, ← s.from) bits
 
 -- a unit of the map is a bit of each share
 module _ (d : ℕ) (ws : List ℕ) (u : ℕ) where
@@ -88,4 +80,4 @@ module _ (d : ℕ) (ws : List ℕ) (clear : (k : ℕ) → k < 2 * share d → ge
   fresh_clear live = λ i. record { depth = d; out = fun_ext none_out i; rule = λ p n. lt-ltb 0 d live i }
     where
       none_out : (n : ℕ) → map_out d (marked d ws) (starts d ws) n ≡ false
-      none_out n = false_from (map_out d (marked d ws) (starts d ws) n) (λ e. both_ways (starts d ws (first d n)) (none_starts (first d n)) (out_of d (marked d ws) (starts d ws) n e).is.start)
+      none_out n = false_from_ne_true (map_out d (marked d ws) (starts d ws) n) (λ e. both_ways (starts d ws (first d n)) (none_starts (first d n)) (out_of d (marked d ws) (starts d ws) n e).is.start)

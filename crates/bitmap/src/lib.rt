@@ -35,7 +35,7 @@ fn mark<const OUT: bool>(words: &mut [u64], d: usize, units: Range<usize>)
     fill_run::<OUT>(words, share + start..share + start + 1);
 }
 
-// All of the words, of which each is below 2^64: the proof knows that of a slice that is handed to a call.
+// Returns the words; only a call tells the proof that each is below 2^64.
 fn numbers(words: &[u64]) -> &[u64]
     ensures same { result.now ≡ words.now }
     ensures fits { (k : ℕ) → slice_index words.now k < 2 ^ 64 }
@@ -105,8 +105,8 @@ impl<'a> Bitmap<'a> {
         };
         let share = 64 * share_of(self.depth);
         bit_at(self.words, share + start)
-            && first::<false>(self.words, start..end) == end
-            && first::<true>(self.words, share + start + 1..share + end) == share + end
+            && first::<false>(self.words, start..end).is_none()
+            && first::<true>(self.words, share + start + 1..share + end).is_none()
             && self.parts_at(end)
     }
 
@@ -132,11 +132,10 @@ impl<'a> Bitmap<'a> {
         let mut n = places.start;
         while n < places.end {
             let start = n * size - top;
-            let marked = first::<true>(self.words, start..start + size);
-            if marked == start + size {
+            let Some(marked) = first::<true>(self.words, start..start + size) else {
                 return Some(n);
-            }
-            let clear = first::<false>(self.words, marked..top);
+            };
+            let clear = first::<false>(self.words, marked..top).unwrap_or(top);
             n = (top + clear).div_ceil(size);
         }
         None
@@ -156,7 +155,7 @@ impl<'a> Space for Bitmap<'a> {
         let Some(Range { start, end }) = self.units(n) else {
             return false;
         };
-        first::<true>(self.words, start..end) == end
+        first::<true>(self.words, start..end).is_none()
     }
 
     fn out(&self, n: usize) -> bool {
@@ -169,7 +168,7 @@ impl<'a> Space for Bitmap<'a> {
             return false;
         };
         let share = 64 * share_of(self.depth);
-        first::<true>(self.words, share + start..share + end) < share + end && self.parts_at(end)
+        first::<true>(self.words, share + start..share + end).is_some() && self.parts_at(end)
     }
 
     fn seek(&self, w: usize, d: usize, f: usize) -> Option<usize> {

@@ -2,7 +2,7 @@
 // the words do not have is 0. Each loop goes word by word, whatever the ends of its run.
 #![tactic(auto)]
 
-ghost use Rattle.std.specs.Prelude.{◌≡◌, ℕ, ◌+◌, ◌*◌, ◌/◌, ◌<◌, ◌≤◌, min, not, ◌&&◌, ◌++◌, length, drop, replicate, if◌then◌else◌, nat_lt, slice_index};
+ghost use Rattle.std.specs.Prelude.{◌≡◌, ℕ, ◌+◌, ◌*◌, ◌/◌, ◌<◌, ◌≤◌, min, not, ◌&&◌, ◌++◌, length, drop, replicate, if◌then◌else◌, MatchOption, nat_lt, slice_index};
 ghost use Rattle.bits.specs.Bit.{on, bit, within};
 
 use std::ops::Range;
@@ -14,7 +14,7 @@ pub fn bit_at(words: &[u64], i: usize) -> bool
     words.get(i / 64).is_some_and(|w| (w >> (i % 64)) % 2 == 1)
 }
 
-// The bits of word w that lie in a run of which w is one of the words.
+// A mask of the bits of word w that lie in a run, which reaches into that word.
 fn part(w: usize, start: usize, end: usize) -> u64
     requires from { start / 64 ≤ w }
     requires to { 64 * w < end }
@@ -25,23 +25,23 @@ fn part(w: usize, start: usize, end: usize) -> u64
     (u64::MAX << low) & (u64::MAX >> (64 - high))
 }
 
-// The first bit of a run that is `SET`, or the end of the run.
-pub fn first<const SET: bool>(words: &[u64], run: Range<usize>) -> usize
-    ensures range { result ≤ run.end }
-    ensures before { (k : ℕ) → run.start ≤ k → k < result → bit words.now k ≡ not SET }
-    ensures found { result < run.end → (run.start ≤ result) × (bit words.now result ≡ SET) }
+// The first bit of a run that is `SET`.
+pub fn first<const SET: bool>(words: &[u64], run: Range<usize>) -> Option<usize>
+    ensures { MatchOption result
+        ((k : ℕ) → run.start ≤ k → k < run.end → bit words.now k ≡ not SET)
+        (λ i. (run.start ≤ i) × (i < run.end) × (bit words.now i ≡ SET) × ((k : ℕ) → run.start ≤ k → k < i → bit words.now k ≡ not SET)) }
 {
     let Range { start, end } = run;
     for w in start / 64..end.div_ceil(64).min(words.len()) {
         let word = if SET { words[w] } else { !words[w] };
         let hits = word & part(w, start, end);
         if hits != 0 {
-            return 64 * w + hits.trailing_zeros() as usize;
+            return Some(64 * w + hits.trailing_zeros() as usize);
         }
     }
     // Behind the words every bit is clear.
-    let behind = words.len().saturating_mul(64).max(start).min(end);
-    if SET { end } else { behind }
+    let behind = words.len().saturating_mul(64).max(start);
+    (!SET && behind < end).then_some(behind)
 }
 
 // Sets a run to `SET`, as far as the words go.

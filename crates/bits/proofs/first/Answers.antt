@@ -21,11 +21,7 @@ pub returns-then-hits-ne0 : goal.returns-then-hits-ne0
 returns-then-hits-ne0 g c =
     let w = c.loop-w.w in
     let m = met c.args.words.now c.args.run.start c.args.run.end w c.if-this-ne0.word c.part.result (not (eqb g.row.SET 0)) (read g (goal.at.returns-then-hits-ne0 g c).After-part) c.part.ensures (omega arith) c.if-hits-ne0.true in
-    record {
-      range = omega (arith, m.to);
-      before = λ k le lt. ⊎_elim (λ b. c.loop-w.invariant k le (omega (arith, m.to)) b) (λ b. m.before k le lt b) (cases_lt k (64 * w));
-      found = λ _. (m.from, m.is);
-    }
+    (m.from, omega (arith, m.to), m.is, λ k le lt. ⊎_elim (λ b. c.loop-w.invariant k le (omega (arith, m.to)) b) (λ b. m.before k le lt b) (cases_lt k (64 * w)))
 
 pub loop-w-preserved : goal.loop-w-preserved
 loop-w-preserved g c = λ k le lt more.

@@ -6,5 +6,4 @@ pub returns : goal.returns
 returns c =
     let s = c.args.self.now in
     let p = c.in-Some.ensures in
-    let f = c.first.ensures in
-    open_from s.depth s.words.now c.args.n _ _ _ p.0 p.1 s.tidy f.range (λ u lo hi. f.before u (omega arith) hi) (λ lt. let g = f.found lt in (omega (arith, g.0), g.1))
+    open_from s.depth s.words.now c.args.n _ _ c.first.result _ p.0 s.tidy c.first.ensures c.is_none.ensures (omega (arith, p.1.from)) (omega (arith, p.1.to))
