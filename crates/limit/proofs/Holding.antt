@@ -2,9 +2,8 @@
 use Rattle.std.proofs.Common.{◌≡◌, ℕ, ◌+◌, ◌-◌, ◌*◌, ◌/◌, ◌%◌, ◌^◌, ◌<◌, ◌≤◌, Bool, true, false, not, sym, refl, ap, ◌∙◌, ⊎_elim, div-mul-le_self, mod-eq_of_lt, pow_pos, pow_mono, arith}
 use Rattle.std.proofs.Math.Bool.{or_comm}
 use Rattle.std.proofs.lemmas.Nat.{le-div, div_below, shl-shr}
-use Rattle.std.proofs.lemmas.Bool.{cases_lt, both_ways, or_cases, or_left, not-true, not-false, not_from_false}
+use Rattle.std.proofs.lemmas.Bool.{cases_lt, both_ways, or_cases, or_left, not-true, not-false, not_from_false, false_from_ne_true}
 use Rattle.space.specs.Places.{lies, overlap, depth_of}
-use Rattle.space.proofs.Truth.{false_from}
 use Rattle.space.proofs.Depths.{depth_le, depth_bounds, depth_halved, halved_pos, place_of}
 use Rattle.space.proofs.Lies.{lies_pos, lies_le}
 use Rattle.space.proofs.Halving.{lies_halved, lies_by_depths, run_over}
@@ -70,7 +69,7 @@ module _ (n h k : ℕ) (steps : k ≡ depth_of n - depth_of h) (no : false ≡ n
   top_pos = halved_pos n k (overlap_pos h n (overlap_sym n h o)) (omega arith)
 
   refused : (j : ℕ) → j < (n / 2 ^ k + 1) * 2 ^ k → may_follow (clear_of h) n j ≡ false
-  refused j lt = false_from _ (λ t.
+  refused j lt = false_from_ne_true _ (λ t.
       let a = follow_parts (clear_of h) n j t in
       let low = a.0 in
       let up = le-div (n / 2 ^ k) j (2 ^ k) (pow_pos k) (omega (arith, div-mul-le_self n (2 ^ k))) in
@@ -81,7 +80,7 @@ module _ (n h k : ℕ) (steps : k ≡ depth_of n - depth_of h) (no : false ≡ n
   beside_none last j =
       ⊎_elim
       (refused j)
-      (λ ge. false_from _ (λ t.
+      (λ ge. false_from_ne_true _ (λ t.
       let a = (follow_parts (clear_of h) n j t).1 in
       let q = le-div (n / 2 ^ k + 1) j (2 ^ k) (pow_pos k) ge in
       let pos = top_pos in
@@ -107,7 +106,7 @@ module _ (n h k : ℕ) (steps : k ≡ depth_of n - depth_of h) (no : false ≡ n
     behind = rw at (run_over k n (n / 2 ^ k) top_pos refl)
 
     free : overlap (next * 2 ^ k) h ≡ false
-    free = false_from (overlap (next * 2 ^ k) h) (λ p. let e = halved_same (next * 2 ^ k) depth_beside p in let f = halved_beside in omega arith)
+    free = false_from_ne_true (overlap (next * 2 ^ k) h) (λ p. let e = halved_same (next * 2 ^ k) depth_beside p in let f = halved_beside in omega arith)
 
     fits : depth_of n < 64 → next * 2 ^ k < 2 ^ 64
     fits lt =

@@ -34,18 +34,6 @@ module _ (m : Meaning) (test : (ℕ → Bool) → ℕ → Bool) (w d f from : �
       (cases_lt k from)
 
   module _ (n : ℕ) (at : answers m w d from n ≡ true) where
-    pub found_allowed : test m.out n ≡ true → answers (limited m test) w d f n ≡ true
-    found_allowed t =
-        let a = answer_parts m w d from n at in
-        let o = open_parts m n a.is in
-        let low = a.from in
-        answer_from (limited m test) w d f n (record {
-          at = a.at;
-          under = a.under;
-          from = omega arith;
-          is = open_from (limited m test) n (record { at = o.at; free = o.free; allowed = and_from _ _ o.allowed t });
-        })
-
     -- behind the first find nothing answers that the test refuses
     pub none_follows : ((k : ℕ) → k < n → answers m w d from k ≡ false) → (k : ℕ) → may_follow (test m.out) n k ≡ false → answers (limited m test) w d f k ≡ false
     none_follows first k e =

@@ -1,11 +1,10 @@
 -- The walk down the tree counts the units of the set: where it stops early, and that it is the sum over all places.
 use Rattle.std.proofs.Common.{◌≡◌, ℕ, zero, suc, ◌+◌, ◌-◌, ◌*◌, ◌/◌, ◌^◌, ◌<◌, ◌≤◌, Bool, true, false, ◌&&◌, refl, ap, ◌∙◌, mul_assoc, add-mul, mul-add, arith, pow_mono}
 use native.Mathlib.Nat.{two-pow-succ}
-use Rattle.std.proofs.lemmas.Bool.{and_from, and_right, or_left, both_ways, cond-true, cond-false}
+use Rattle.std.proofs.lemmas.Bool.{and_from, and_right, or_left, both_ways, cond-true, cond-false, false_from_ne_true}
 use Rattle.space.specs.Bounded.{sum_below}
 use Rattle.space.specs.Places.{lies, depth_of, units}
 use Rattle.space.specs.Meaning.{Meaning, Sound, is_busy}
-use Rattle.space.proofs.Truth.{false_from}
 use Rattle.space.proofs.Below.{some_none, sum_split, sum_same}
 use Rattle.space.proofs.Lies.{lies_left, lies_right, lies_le, lies_self}
 use Rattle.space.proofs.Depths.{place_below, depth_half, depth_bounds}
@@ -42,7 +41,7 @@ module _ (m : Meaning) (s : Sound m) where
   pub units_idle : (h n : ℕ) → 0 < n → is_busy m n ≡ false → sum_under h (units_at m.depth m.out) n ≡ 0
   units_idle h n pos e =
       under_none h (units_at m.depth m.out) n pos
-      (λ k l. none_at m.depth m.out k (false_from (m.out k)
+      (λ k l. none_at m.depth m.out k (false_from_ne_true (m.out k)
       (λ o. both_ways (m.out k && lies k n)
       (some_none (2 ^ (m.depth + 1)) (λ j. m.out j && lies j n) e k (place_below m.depth k (s.inside k o)))
       (and_from (m.out k) (lies k n) o l))))
@@ -50,7 +49,7 @@ module _ (m : Meaning) (s : Sound m) where
   -- under a place out nothing else is out
   under_out : (n j : ℕ) → m.out n ≡ true → n < j → ((k : ℕ) → lies k j ≡ true → lies k n ≡ true) → (k : ℕ) → lies k j ≡ true → units_at m.depth m.out k ≡ 0
   under_out n j o lt up k l =
-      none_at m.depth m.out k (false_from (m.out k)
+      none_at m.depth m.out k (false_from_ne_true (m.out k)
       (λ ok.
       let same : k ≡ n = s.apart k n ok o (or_left (lies k n) (lies n k) (up k l)) in
       let le : j ≤ k = lies_le k j l in
@@ -72,10 +71,6 @@ children_fit n d h pos up e le =
     let x : depth_of (2 * n) ≡ depth_of n + 1 = depth_half (2 * n) (omega arith) ∙ ap (λ x. depth_of x + 1) (let e : 2 * n / 2 ≡ n = omega arith in e) in
     let y : depth_of (2 * n + 1) ≡ depth_of n + 1 = depth_half (2 * n + 1) (omega arith) ∙ ap (λ x. depth_of x + 1) (let e : (2 * n + 1) / 2 ≡ n = omega arith in e) in
     (omega (arith, t.1), omega arith, omega arith)
-
-pub pow_half : (h : ℕ) → 0 < h → 2 ^ h ≡ 2 ^ (h - 1) + 2 ^ (h - 1)
-pow_half zero pos = absurd (omega arith)
-pow_half (suc h) pos = let e : suc h - 1 ≡ h = omega arith in rw e (two-pow-succ h)
 
 -- the sum over the places d levels under n
 unfoldable row : (ℕ → ℕ) → ℕ → ℕ → ℕ

@@ -38,8 +38,8 @@ impl Rule for HoldBack {
         !overlaps(n, usize::from(self.held))
     }
 
-    // `top` is n, or the held place where n lies in it: of n's depth, what lies in `top` is held back as n is, and what
-    // lies beside it is not.
+    // `top` is the held place where n lies in it, else n. Places of n's depth in `top` are held back; those beside it
+    // are not.
     fn first<S: Space>(&self, space: &S, n: usize) -> Option<usize> {
         if self.allows(space, n) {
             return Some(n);

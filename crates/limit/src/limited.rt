@@ -55,7 +55,7 @@ impl<S: Space, R: Rule> Space for Limited<S, R> {
     }
 
     fn take(&mut self, n: usize) -> bool {
-        self.rule.allows(&self.below, n) && self.below.take(n)
+        self.open(n) && self.below.take(n)
     }
 
     fn give(&mut self, n: usize) -> bool {

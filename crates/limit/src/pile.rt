@@ -8,9 +8,12 @@ use crate::quota::Quota;
 use crate::rule::Rule;
 use space::Space;
 
-// A rule over a rule, over a space.
+// A space under `inner`, and that under `outer`.
 pub fn pile<S: Space, A: Rule, B: Rule>(space: S, inner: A, outer: B) -> Limited<Limited<S, A>, B>
-    ensures { ⟦<Limited<Limited<S, A>, B> as Space>⟧.meaning result ≡ limited (limited (S.meaning space) (A.test inner (S.meaning space).depth)) (B.test outer (S.meaning space).depth) }
+    ensures space { result.below.below ≡ space }
+    ensures inner { result.below.rule ≡ inner }
+    ensures outer { result.rule ≡ outer }
+    ensures meaning { ⟦<Limited<Limited<S, A>, B> as Space>⟧.meaning result ≡ limited (limited (S.meaning space) (A.test inner (S.meaning space).depth)) (B.test outer (S.meaning space).depth) }
 {
     Limited::new(Limited::new(space, inner), outer)
 }
@@ -21,7 +24,8 @@ pub fn quota_over_hold_back<S: Space>(
     most: u16,
     held: u16,
 ) -> Limited<Limited<S, HoldBack>, Quota>
-    ensures { ⟦<Limited<Limited<S, HoldBack>, Quota> as Space>⟧.meaning result ≡ within_quota (held_back (S.meaning space) held) most }
+    ensures space { result.below.below ≡ space }
+    ensures meaning { ⟦<Limited<Limited<S, HoldBack>, Quota> as Space>⟧.meaning result ≡ within_quota (held_back (S.meaning space) held) most }
 {
     pile(space, HoldBack::new(held), Quota::new(most))
 }
@@ -32,7 +36,8 @@ pub fn hold_back_over_quota<S: Space>(
     most: u16,
     held: u16,
 ) -> Limited<Limited<S, Quota>, HoldBack>
-    ensures { ⟦<Limited<Limited<S, Quota>, HoldBack> as Space>⟧.meaning result ≡ held_back (within_quota (S.meaning space) most) held }
+    ensures space { result.below.below ≡ space }
+    ensures meaning { ⟦<Limited<Limited<S, Quota>, HoldBack> as Space>⟧.meaning result ≡ held_back (within_quota (S.meaning space) most) held }
 {
     pile(space, Quota::new(most), HoldBack::new(held))
 }

@@ -7,7 +7,7 @@ use space::Space;
 
 // A rule is asked about the space that it limits, and keeps no count of its own.
 pub trait Rule {
-    // Its yes or no, for every depth, set of places out, and place.
+    // Whether a place is allowed, for a depth and a set of places out.
     ghost test: { Self → ℕ → (ℕ → Bool) → ℕ → Bool };
 
     // Whether n may join the places out.

@@ -1,7 +1,8 @@
-use Rattle.std.proofs.Common.{◌≡◌, sym, ap, ◌∙◌, arith}
+use Rattle.std.proofs.Common.{◌≡◌, suc, ◌-◌, sym, ap, ◌∙◌, arith}
+use native.Mathlib.Nat.{two-pow-succ}
 use Rattle.std.proofs.lemmas.Nat.{one_shl}
 use Rattle.limit.specs.Walk.{sum_under, units_at}
-use Rattle.limit.proofs.Walking.{units_whole, units_idle, under_step, none_at, pow_half, children_fit}
+use Rattle.limit.proofs.Walking.{units_whole, units_idle, under_step, none_at, children_fit}
 use Rattle.limit.proofs.quota.+count.Goals as goal
 use Rattle.limit.proofs.quota.+count.Goals.{then-h-eq0-via-then-h-eq0, then-h-eq0-via-else-h-eq0+then-not-busy}
 
@@ -41,5 +42,6 @@ returns g t c =
     let f = units_at m.depth m.out in
     let step = under_step c.args.h f c.args.n (omega arith) in
     let none = none_at m.depth m.out c.args.n (sym c.if-out.ensures) in
-    let p = pow_half c.args.h (omega arith) in
+    let e : suc (c.args.h - 1) ≡ c.args.h = omega arith in
+    let p = rw e at (two-pow-succ (c.args.h - 1)) in
     record { value = omega (arith, step, none, c.count.ensures.value, c.count-2.ensures.value); bound = omega (arith, p, c.count.ensures.bound, c.count-2.ensures.bound) }
