@@ -1,5 +1,5 @@
 -- Shifts of a number of 128 bits: where k is too many, nothing is left, and 0 stands for it.
-use Rattle.std.proofs.Common.{◌≡◌, ℕ, ◌+◌, ◌-◌, ◌*◌, ◌/◌, ◌%◌, ◌^◌, ◌<◌, ◌≤◌, Option, Some, None, sym, ap, ◌∙◌, mod-eq_of_lt, mul_assoc, pow_mono, pow-add, arith}
+use Rattle.std.proofs.Common.{◌≡◌, ℕ, ◌+◌, ◌-◌, ◌*◌, ◌/◌, ◌%◌, ◌^◌, ◌<◌, ◌≤◌, Option, Some, None, sym, mod-eq_of_lt, mul_assoc, pow_mono, pow-add, arith}
 use Rattle.std.specs.Option.{SomeIff, unwrap_or}
 use Rattle.std.proofs.Math.Nat.{div-eq_of_lt, mul-mod_left}
 
@@ -10,9 +10,13 @@ pub shr_or_none : (o : Option ℕ) (n k : ℕ) → n < 2 ^ 128 → SomeIff o (k 
 shr_or_none None n k small far = let p = pow_mono {i = 128} {j = k} (omega arith) in sym (div-eq_of_lt {n = n} {m = 2 ^ k} (omega arith))
 shr_or_none (Some x) n k small near = near.1
 
+-- raised by w bits or more, nothing is left of it below w
+pub raised_past : (w n k : ℕ) → w ≤ k → (n * 2 ^ k) % 2 ^ w ≡ 0
+raised_past w n k h =
+    let e : k ≡ (k - w) + w = omega arith in
+    let p = pow-add 2 (k - w) w in
+    rw (e, p, ← mul_assoc n (2 ^ (k - w)) (2 ^ w)) (mul-mod_left (n * 2 ^ (k - w)) (2 ^ w))
+
 pub shl_or_none : (o : Option ℕ) (n k : ℕ) → SomeIff o (k < 128) ((n * 2 ^ k) % 2 ^ 128) → unwrap_or o 0 ≡ (n * 2 ^ k) % 2 ^ 128
-shl_or_none None n k far =
-    let e : k ≡ (k - 128) + 128 = omega arith in
-    let p : n * 2 ^ k ≡ n * 2 ^ (k - 128) * 2 ^ 128 = ap (λ x. n * 2 ^ x) e ∙ ap (λ x. n * x) (pow-add 2 (k - 128) 128) ∙ sym (mul_assoc n (2 ^ (k - 128)) (2 ^ 128)) in
-    sym (ap (λ x. x % 2 ^ 128) p ∙ mul-mod_left (n * 2 ^ (k - 128)) (2 ^ 128))
+shl_or_none None n k far = sym (raised_past 128 n k (omega arith))
 shl_or_none (Some x) n k near = near.1

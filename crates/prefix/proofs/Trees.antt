@@ -1,16 +1,14 @@
 -- The blocks of a tree under a root, at any width: a block of k bits more than the root's r, e bits before the end.
-use Rattle.std.proofs.Common.{◌≡◌, ℕ, ◌+◌, ◌-◌, ◌*◌, ◌/◌, ◌%◌, ◌^◌, ◌<◌, ◌≤◌, true, false, ◌&&◌, eqb, ltb, leb, sym, ap, ◌∙◌, subst, ⊎_elim, mul_assoc, add-mul, arith, pow-add, pow_mono}
+use Rattle.std.proofs.Common.{◌≡◌, ℕ, ◌+◌, ◌-◌, ◌*◌, ◌/◌, ◌%◌, ◌^◌, ◌<◌, ◌≤◌, true, sym, ap, ◌∙◌, subst, ⊎_elim, mul_assoc, add-mul, arith, pow-add, pow_mono}
 use native.Mathlib.Nat.{mul-mod_left}
 use Rattle.std.proofs.lemmas.Nat.{pow_pos, shr_split, shl_below, shr_below, shr_high, mod_low, shl-shr, mul-add-lt, mod_below, mod-pow-add, shl_whole}
-use Rattle.std.proofs.lemmas.Bool.{le-leb, lt-leb, le-ltb, lt-ltb, eq-eqb, leb-true, eqb-true, and_from, and_parts, and_left, and_right, cond-true, cond-false, cases_lt}
+use Rattle.std.proofs.lemmas.Bool.{cases_lt}
+use Rattle.std.proofs.lemmas.Bool.Decides.{nat_tests}
 use Rattle.prefix.specs.Bits.{front, middle}
 use Rattle.prefix.specs.Form.{Block}
 use Rattle.prefix.specs.Prefixes.{Valid}
 use Rattle.prefix.specs.Places.{fits, belongs, place, is_place, block_down}
 use Rattle.prefix.proofs.Making.{block_same}
-
-pub double : (k : ℕ) → 2 ^ (k + 1) ≡ 2 * 2 ^ k
-double k = pow-add 2 k 1 ∙ omega arith
 
 -- a number's depth in the tree is one number
 pub depth_below : (j k n : ℕ) → 2 ^ j ≤ n → n < 2 ^ (k + 1) → j ≤ k
@@ -59,7 +57,7 @@ module _ (w : ℕ) (root : Block) (v : Valid w root) (n k : ℕ) (inside : root.
   clear = subst (λ x. root.first % 2 ^ x ≡ 0) left v.clear
 
   short : n - 2 ^ k < 2 ^ k
-  short = omega (arith, double k)
+  short = omega (arith, pow-add 2 k 1)
 
   pub path_small : (n - 2 ^ k) * 2 ^ (w - (root.length + k)) < 2 ^ (w - root.length)
   path_small = subst (λ x. (n - 2 ^ k) * 2 ^ (w - (root.length + k)) < 2 ^ x) (sym left) (shl_below (n - 2 ^ k) k (w - (root.length + k)) short)
@@ -82,47 +80,20 @@ module _ (w : ℕ) (root : Block) (v : Valid w root) (n k : ℕ) (inside : root.
   -- the block at a place has that place
   pub place_down : (d : ℕ) → fits w root d ≡ true → k ≤ d → place w root d (block_down w root k n) ≡ n
   place_down d f kd =
-      let b : belongs w root d (block_down w root k n) ≡ true =
-      and_from _ _ f (and_from _ _ (le-leb root.length (root.length + k) (omega arith)) (and_from _ _ (le-leb (root.length + k) (root.length + d) (omega arith)) (eq-eqb _ _ down_front))) in
-      cond-true (belongs w root d (block_down w root k n)) _ 0 b ∙ down_middle
-
--- the four ways in which a number is no place
-pub too_deep : (w : ℕ) (root : Block) (d n : ℕ) → 12 < d → is_place w root d n ≡ false
-too_deep w root d n h = and_left _ _ (and_left _ _ (lt-leb d 12 h))
-
-pub too_narrow : (w : ℕ) (root : Block) (d n : ℕ) → w < root.length + d → is_place w root d n ≡ false
-too_narrow w root d n h = and_left _ _ (and_right (leb d 12) _ (lt-leb (root.length + d) w h))
-
-pub no_zero : (w : ℕ) (root : Block) (d n : ℕ) → n ≡ 0 → is_place w root d n ≡ false
-no_zero w root d n h = and_right (fits w root d) _ (and_left _ _ (le-ltb 0 n (omega arith)))
-
-pub too_far : (w : ℕ) (root : Block) (d n : ℕ) → 2 ^ (d + 1) ≤ n → is_place w root d n ≡ false
-too_far w root d n h = and_right (fits w root d) _ (and_right (ltb 0 n) _ (le-ltb n (2 ^ (d + 1)) h))
+      let b : belongs w root d (block_down w root k n) ≡ true = grind (arith, nat_tests, down_front) in
+      rw b down_middle
 
 -- `2 << d`, where it fits
 pub shifted_two : (d : ℕ) → d ≤ 12 → (2 * 2 ^ d) % 2 ^ 64 ≡ 2 ^ (d + 1)
-shifted_two d h = shl_whole 2 2 d 64 (omega arith) (omega arith) ∙ sym (double d)
-
--- a place's own depth is at most the tree's
-pub depth_within : (d n k : ℕ) → d ≤ 12 → n < (2 * 2 ^ d) % 2 ^ 64 → 2 ^ k ≤ n → k ≤ d
-depth_within d n k d12 high low = depth_below k d n low (omega (arith, shifted_two d d12))
+shifted_two d h = omega (arith, shl_whole 2 2 d 64 (omega arith) (omega arith), pow-add 2 d 1)
 
 -- where a prefix belongs, its place is a place of its own depth, and the block there is the prefix
 module _ (w : ℕ) (root b : Block) (d : ℕ) (vr : Valid w root) (vb : Valid w b) (yes : belongs w root d b ≡ true) where
-  fit : fits w root d ≡ true
-  fit = (and_parts _ _ yes).0
-
-  tests : (leb root.length b.length && (leb b.length (root.length + d) && eqb (front w root.length b.first) (front w root.length root.first))) ≡ true
-  tests = (and_parts _ _ yes).1
-
   longer : root.length ≤ b.length
-  longer = leb-true _ _ (and_parts _ _ tests).0
-
-  shorter : b.length ≤ root.length + d
-  shorter = leb-true _ _ (and_parts _ _ (and_parts _ _ tests).1).0
+  longer = grind (arith, nat_tests)
 
   same_front : front w root.length b.first ≡ front w root.length root.first
-  same_front = eqb-true _ _ (and_parts (leb b.length (root.length + d)) _ (and_parts (leb root.length b.length) _ tests).1).1
+  same_front = grind (arith, nat_tests)
 
   path : ℕ
   path = middle w root.length b.length b.first
@@ -133,18 +104,19 @@ module _ (w : ℕ) (root b : Block) (d : ℕ) (vr : Valid w root) (vb : Valid w 
 
   own : place w root d b ≡ 2 ^ (b.length - root.length) + path
   unfolding path
-  own = cond-true (belongs w root d b) _ 0 yes
+  own = rw yes
 
   pub own_low : 2 ^ (b.length - root.length) ≤ place w root d b
   own_low = omega (arith, own)
 
   pub own_high : place w root d b < 2 ^ (b.length - root.length + 1)
-  own_high = omega (arith, own, path_below, double (b.length - root.length))
+  own_high = omega (arith, own, path_below, pow-add 2 (b.length - root.length) 1)
 
   pub own_place : is_place w root d (place w root d b) ≡ true
   own_place =
-      let m = pow_mono {i = b.length - root.length + 1} {j = d + 1} (omega (arith, shorter)) in
-      and_from _ _ fit (and_from _ _ (lt-ltb 0 _ (omega (arith, own_low, pow_pos (b.length - root.length)))) (lt-ltb _ (2 ^ (d + 1)) (omega (arith, own_high))))
+      let shorter : b.length ≤ root.length + d = grind (arith, nat_tests) in
+      let m = pow_mono {i = b.length - root.length + 1} {j = d + 1} (omega arith) in
+      grind (arith, nat_tests, own_low, own_high, pow_pos (b.length - root.length))
 
   -- the first address: the root's bits, then the path, then zeros
   first_is : root.first + path * 2 ^ (w - b.length) ≡ b.first
@@ -165,7 +137,3 @@ module _ (w : ℕ) (root b : Block) (d : ℕ) (vr : Valid w root) (vb : Valid w 
       let f : root.first + (place w root d b - 2 ^ (b.length - root.length)) * 2 ^ (w - (root.length + (b.length - root.length))) ≡ b.first =
       ap (λ x. root.first + x * 2 ^ (w - (root.length + (b.length - root.length)))) n ∙ ap (λ x. root.first + path * 2 ^ (w - x)) l ∙ first_is in
       block_same _ b.first _ b.length f l
-
--- where it does not belong, its place is 0
-pub no_place : (w : ℕ) (root b : Block) (d : ℕ) → belongs w root d b ≡ false → place w root d b ≡ 0
-no_place w root b d out = cond-false (belongs w root d b) _ 0 out

@@ -1,8 +1,8 @@
 -- Which prefixes lie in one another and which share addresses, at any width.
-use Rattle.std.proofs.Common.{◌≡◌, ℕ, ◌+◌, ◌-◌, ◌*◌, ◌/◌, ◌^◌, ◌<◌, ◌≤◌, true, leb, Decides, sym, refl, ap, ◌∙◌, subst, inl, inr, ⊎_elim, one-mul, arith, pow-add}
+use Rattle.std.proofs.Common.{◌≡◌, ℕ, ◌+◌, ◌-◌, ◌*◌, ◌/◌, ◌^◌, ◌<◌, ◌≤◌, true, Decides, sym, refl, ap, ◌∙◌, subst, inl, inr, ⊎_elim, one-mul, arith, pow-add}
 use Rattle.std.proofs.lemmas.Nat.{pow_pos, pow_below, shr-shr, shr_split, shr_below, shr_high, mul-add-lt}
-use Rattle.std.proofs.lemmas.Bool.{cases_lt, leb-true, le-leb, eqb-true, eq-eqb}
-use Rattle.std.proofs.lemmas.Bool.Decides.{Decides-eqb, Decides-like, Decides-and, Decides-or}
+use Rattle.std.proofs.lemmas.Bool.{cases_lt, eqb-true, eq-eqb}
+use Rattle.std.proofs.lemmas.Bool.Decides.{Decides-like, Decides-or, nat_tests}
 use native.Mathlib.Nat.{add-mul-div_right}
 use Rattle.prefix.specs.Bits.{front}
 use Rattle.prefix.specs.Form.{Block}
@@ -18,9 +18,6 @@ front_fewer w l m x y lm mw e = front-front w l m x lm mw ∙ ap (λ v. v / 2 ^ 
 -- a prefix contains its first address
 pub contains-first : (w : ℕ) (b : Block) → contains w b b.first ≡ true
 contains-first w b = eq-eqb _ _ refl
-
-covers_parts : (w : ℕ) (b c : Block) → Decides (covers w b c) ((b.length ≤ c.length) × (front w b.length c.first ≡ front w b.length b.first))
-covers_parts w b c = Decides-and (leb b.length c.length) (contains w b c.first) (leb-true b.length c.length, le-leb b.length c.length) (Decides-eqb _ _)
 
 -- where c is shorter than l, an address of c other than its first differs from it in the first l bits
 module _ (w l : ℕ) (c : Block) (v : Valid w c) (lw : l ≤ w) (shorter : c.length < l) where
@@ -56,23 +53,20 @@ module _ (w : ℕ) (b c : Block) (vb : Valid w b) (vc : Valid w c) where
   length_from_within f =
       ⊎_elim
       (λ shorter.
-      let o = other w b.length c vc vb.within shorter in
-      let p = eqb-true _ _ (f o (other_below w b.length c vc vb.within shorter) (eq-eqb _ _ (other-front w b.length c vc vb.within shorter))) in
-      let q = eqb-true _ _ (f c.first vc.small (contains-first w c)) in
-      absurd (other_differs w b.length c vc vb.within shorter (p ∙ sym q)))
+      let p = eqb-true _ _ (f (other w b.length c vc vb.within shorter) (other_below w b.length c vc vb.within shorter) (eq-eqb _ _ (other-front w b.length c vc vb.within shorter))) in
+      absurd (other_differs w b.length c vc vb.within shorter (p ∙ sym (eqb-true _ _ (f c.first vc.small (contains-first w c))))))
       (λ h. h)
       (cases_lt c.length b.length)
 
   -- c lies in b exactly when every address of c is one of b
   pub covers_decides : Decides (covers w b c) (Within w b c)
-  covers_decides =
-      Decides-like (covers w b c)
-      (λ p x small inside. eq-eqb _ _ (front_fewer w b.length c.length x c.first p.0 vc.within (eqb-true _ _ inside) ∙ p.1))
-      (λ f. (length_from_within f, eqb-true _ _ (f c.first vc.small (contains-first w c))))
-      (covers_parts w b c)
+  covers_decides = (
+    λ e x small inside. grind (arith, nat_tests, front_fewer w b.length c.length x c.first),
+    λ f. let l = length_from_within f in let p = f c.first vc.small (contains-first w c) in grind (arith, nat_tests),
+  )
 
   meet : (x : ℕ) → contains w b x ≡ true → contains w c x ≡ true → b.length ≤ c.length → covers w b c ≡ true
-  meet x inb inc h = (covers_parts w b c).1 (h, sym (front_fewer w b.length c.length x c.first h vc.within (eqb-true _ _ inc)) ∙ eqb-true _ _ inb)
+  meet x inb inc h = grind (arith, nat_tests, front_fewer w b.length c.length x c.first)
 
 -- two prefixes overlap exactly when they share an address
 pub overlaps_decides : (w : ℕ) (b c : Block) → Valid w b → Valid w c → Decides (overlaps w b c) (Shared w b c)
@@ -81,8 +75,5 @@ overlaps_decides w b c vb vc =
     (⊎_elim
     (λ e. record { address = c.first; below = vc.small; left = (covers_decides w b c vb vc).0 e c.first vc.small (contains-first w c); right = contains-first w c })
     (λ e. record { address = b.first; below = vb.small; left = contains-first w b; right = (covers_decides w c b vc vb).0 e b.first vb.small (contains-first w b) }))
-    (λ s. ⊎_elim
-    (λ h. inr (meet w c b vc vb s.address s.right s.left (omega arith)))
-    (λ h. inl (meet w b c vb vc s.address s.left s.right h))
-    (cases_lt c.length b.length))
+    (λ s. ⊎_elim (λ h. inr (meet w c b vc vb s.address s.right s.left (omega arith))) (λ h. inl (meet w b c vb vc s.address s.left s.right h)) (cases_lt c.length b.length))
     (Decides-or (covers w b c) (covers w c b) ((λ e. e), (λ e. e)) ((λ e. e), (λ e. e)))

@@ -1,12 +1,13 @@
 -- What is no place gives the root; the block at a place has the root's bits, then the place's.
-use Rattle.std.proofs.Common.{◌≡◌, ℕ, ◌+◌, ◌-◌, ◌*◌, ◌%◌, ◌^◌, ◌<◌, ◌≤◌, true, false, refl, ap, ◌∙◌, mod-eq_of_lt, pow_mono, arith}
+use Rattle.std.proofs.Common.{◌≡◌, ℕ, ◌+◌, ◌-◌, ◌*◌, ◌%◌, ◌^◌, ◌<◌, ◌≤◌, true, false, refl, ap, ◌∙◌, mod-eq_of_lt, pow_mono, pow-add, arith}
 use Rattle.std.proofs.lemmas.Nat.{one_shl}
-use Rattle.std.proofs.lemmas.Bool.{both_ways, le-leb, lt-ltb, and_from}
+use Rattle.std.proofs.lemmas.Bool.{both_ways}
+use Rattle.std.proofs.lemmas.Bool.Decides.{nat_tests}
 use Rattle.prefix.specs.Bits.{cleared}
 use Rattle.prefix.specs.Form.{Block, block}
 use Rattle.prefix.specs.Places.{fits, place, is_place, block_down}
 use Rattle.prefix.proofs.Making.{cleared_same, block_same}
-use Rattle.prefix.proofs.Trees.{double, too_deep, too_narrow, no_zero, too_far, shifted_two, depth_within, depth_one, path_small, down_below, down_clear, place_down}
+use Rattle.prefix.proofs.Trees.{shifted_two, depth_below, depth_one, path_small, down_below, down_clear, place_down}
 use Rattle.prefix.proofs.family.Family.prefix_at.Given.{Over}
 use Rattle.prefix.proofs.family.Family.prefix_at.Goals as goal
 use Rattle.prefix.proofs.family.Family.prefix_at.Goals.{After-number, After-raised, then-depth-gt12-via-then-depth-gt12, then-depth-gt12-via-else-depth-gt12+then-depth-WIDTH, then-depth-gt12-via-else-depth-gt12+else-depth-WIDTH+then-n-eq0, then-depth-gt12-via-else-depth-gt12+else-depth-WIDTH+else-n-eq0+then-n-depth}
@@ -19,10 +20,10 @@ returns-then-depth-gt12 g c =
     let n = c.args.n in
     let no : is_place w root d n ≡ false =
     elim c.then-depth-gt12.branch [
-      | then-depth-gt12-via-then-depth-gt12 x ↦ too_deep w root d n x.if-depth-gt12.true
-      | then-depth-gt12-via-else-depth-gt12+then-depth-WIDTH x ↦ too_narrow w root d n (omega (arith, (g.met.Self.Family.valid c.args.root.now).within))
-      | then-depth-gt12-via-else-depth-gt12+else-depth-WIDTH+then-n-eq0 x ↦ no_zero w root d n x.if-n-eq0.true
-      | then-depth-gt12-via-else-depth-gt12+else-depth-WIDTH+else-n-eq0+then-n-depth x ↦ too_far w root d n (omega (arith, shifted_two d x.if-depth-gt12.false))
+      | then-depth-gt12-via-then-depth-gt12 x ↦ grind (arith, nat_tests)
+      | then-depth-gt12-via-else-depth-gt12+then-depth-WIDTH x ↦ grind (arith, nat_tests, g.met.Self.Family.valid c.args.root.now)
+      | then-depth-gt12-via-else-depth-gt12+else-depth-WIDTH+then-n-eq0 x ↦ grind (arith, nat_tests)
+      | then-depth-gt12-via-else-depth-gt12+else-depth-WIDTH+else-n-eq0+then-n-depth x ↦ grind (arith, nat_tests, shifted_two d x.if-depth-gt12.false)
     ] in
     record { inside = λ k t. absurd (both_ways _ no t); outside = λ _. refl; back = λ t. absurd (both_ways _ no t) }
 
@@ -36,8 +37,8 @@ record Found (w : ℕ) (root : Block) (d n k : ℕ) : Type 0 where
 found : (g : Over) (c : After-number g) → Found g.Self.Family.WIDTH (block g.Self.Family.form c.args.root.now) c.args.depth c.args.n c.ilog2-below.result
 found g c =
     let k = c.ilog2-below.result in
-    let within = depth_within c.args.depth c.args.n k c.if-depth-gt12.false (omega arith) c.ilog2-below.ensures.power_le in
-    record { low = c.ilog2-below.ensures.power_le; high = omega (arith, double k); within = within; inside = omega (arith, (g.met.Self.Family.valid c.args.root.now).within) }
+    let within = depth_below k c.args.depth c.args.n c.ilog2-below.ensures.power_le (omega (arith, shifted_two c.args.depth c.if-depth-gt12.false)) in
+    record { low = c.ilog2-below.ensures.power_le; high = omega (arith, pow-add 2 k 1); within = within; inside = omega (arith, (g.met.Self.Family.valid c.args.root.now).within) }
 
 -- what is raised behind the root's first address
 raised_path : (g : Over) (c : After-raised g) → Found g.Self.Family.WIDTH (block g.Self.Family.form c.args.root.now) c.args.depth c.args.n c.ilog2-below.result
@@ -78,8 +79,8 @@ returns g c =
     let kept : cleared w (root.length + k) down.first ≡ down.first = cleared_same w (root.length + k) down.first (down_clear w root v n k h.inside h.low h.high) in
     let b : block g.Self.Family.form c.enclosing.result ≡ down =
     c.enclosing.ensures ∙ block_same _ down.first _ (root.length + k) (cc) (omega (arith, h.inside)) in
-    let fit : fits w root d ≡ true = and_from _ _ (le-leb d 12 c.if-depth-gt12.false) (le-leb (root.length + d) w (omega (arith, v.within))) in
-    let yes : is_place w root d n ≡ true = and_from _ _ fit (and_from _ _ (lt-ltb 0 n (omega arith)) (lt-ltb n (2 ^ (d + 1)) (omega (arith, shifted_two d c.if-depth-gt12.false)))) in
+    let fit : fits w root d ≡ true = grind (arith, nat_tests, v.within) in
+    let yes : is_place w root d n ≡ true = grind (arith, nat_tests, fit, shifted_two d c.if-depth-gt12.false) in
     record {
       inside = λ j _ low high. b ∙ ap (λ x. block_down w root x n) (depth_one k j n h.low h.high low high);
       outside = λ no. absurd (both_ways _ no yes);

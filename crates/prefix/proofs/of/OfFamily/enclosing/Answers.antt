@@ -1,7 +1,8 @@
 -- What is left of an address without its bits behind the length keeps a prefix's invariant.
-use Rattle.std.proofs.Common.{◌≡◌, ◌-◌, ◌%◌, ◌^◌, min, ap, ◌∙◌, arith}
+use Rattle.std.proofs.Common.{◌≡◌, ◌-◌, ◌/◌, ◌%◌, ◌^◌, min, ap, ◌∙◌, arith}
+use native.Mathlib.Nat.{mul-mod_left}
 use Rattle.prefix.specs.Bits.{cleared}
-use Rattle.prefix.proofs.Making.{cleared_less, cleared_clear, block_same}
+use Rattle.prefix.proofs.Making.{cleared_less, block_same}
 use Rattle.prefix.proofs.of.OfFamily.enclosing.Given.{Over}
 use Rattle.prefix.proofs.of.OfFamily.enclosing.Goals as goal
 use Rattle.prefix.proofs.of.OfFamily.enclosing.Goals.{After-from_number}
@@ -23,7 +24,7 @@ invariant_of-result g c =
     record {
       real = c.from_number.ensures.real;
       within = omega arith;
-      clear = ap (λ x. x % 2 ^ (w - c.min-length.result)) (left g c) ∙ ap (λ x. cleared w l n % 2 ^ x) k ∙ cleared_clear w l n;
+      clear = ap (λ x. x % 2 ^ (w - c.min-length.result)) (left g c) ∙ ap (λ x. cleared w l n % 2 ^ x) k ∙ mul-mod_left (n / 2 ^ (w - l)) (2 ^ (w - l));
     }
 
 pub returns : goal.returns
