@@ -1,6 +1,8 @@
 -- The canonical text of an address: it is a text of that address, and it is short.
-use Rattle.std.proofs.Common.{◌≡◌, ℕ, zero, suc, ◌+◌, ◌-◌, ◌*◌, ◌<◌, ◌≤◌, eqb, List, [], ◌∷◌, ◌++◌, length, get_or, take, drop, replicate, sym, refl, ap, ◌∙◌, subst, inl, inr, arith}
-use Rattle.std.proofs.lemmas.List.{append-nil, append_assoc, length-append, length-take, length-drop, length-replicate, get_or-drop, drop-drop, take_more, take_rest, take-append-drop}
+use Rattle.std.proofs.Common.{◌≡◌, ℕ, ◌+◌, ◌-◌, ◌*◌, ◌<◌, ◌≤◌, eqb, List, [], ◌∷◌, ◌++◌, length, get_or, take, drop, replicate, sym, refl, ap, ◌∙◌, subst, inl, inr, arith}
+use Rattle.std.proofs.lemmas.List.{append-nil, append_assoc, length-append, length-take, length-drop, drop-drop, take_more, take_rest, take-append-drop, get_or_past}
+use Rattle.std.specs.List.{All}
+use Rattle.std.proofs.lemmas.List.Elements.{All-nil, All-cons, All-head, All-tail, All-append, All-replicate, All-take, All-drop, All-get_or, All-from_get_or}
 use Rattle.std.proofs.lemmas.List.Sums.{prefix_len-le-length}
 use Rattle.std.proofs.lemmas.Bool.{cases_lt, lt-ltb, le-ltb}
 use Rattle.numeral.specs.Groups.{hex}
@@ -9,68 +11,49 @@ use Rattle.address.specs.Canonical.{behind, colons, run, zeros, text6}
 use Rattle.address.specs.Colons.{Behind, Joined, Address, Full, Shortened}
 use Rattle.address.proofs.Runs.{run-zeros, zeros_split}
 
--- each group has sixteen bits
-abbrev Below : List ℕ → Type 0
-Below gs = (k : ℕ) → get_or gs k 0 < 65536
+-- a group has sixteen bits
+abbrev Fits : ℕ → Type 0
+Fits g = g < 65536
 
-below_nil : Below []
-below_nil k = omega arith
+-- each group that a text writes has sixteen bits
+fits_behind : (text gs : List ℕ) → Behind text gs → All Fits gs
+fits_behind text [] b = All-nil Fits
+fits_behind text (g ∷ gs) b = All-cons Fits g gs (group_small b.0 g b.3) (fits_behind b.1 gs b.4)
 
-below_cons : (g : ℕ) (gs : List ℕ) → g < 65536 → Below gs → Below (g ∷ gs)
-below_cons g gs h hs zero = h
-below_cons g gs h hs (suc k) = hs k
+fits_joined : (text gs : List ℕ) → Joined text gs → All Fits gs
+fits_joined text [] j = All-nil Fits
+fits_joined text (g ∷ gs) j = All-cons Fits g gs (group_small j.0 g j.3) (fits_behind j.1 gs j.4)
 
-below_append : (gs hs : List ℕ) → Below gs → Below hs → Below (gs ++ hs)
-below_append [] hs a b = b
-below_append (g ∷ gs) hs a b = below_cons g (gs ++ hs) (a 0) (below_append gs hs (λ k. a (suc k)) b)
+fits_address : (text gs : List ℕ) → Address text gs → All Fits gs
+fits_address text gs (inl f) = fits_joined text gs f.spelt
+fits_address text gs (inr s) =
+    rw s.groups
+    (All-append Fits s.before _ (fits_joined s.left s.before s.first) (All-append Fits _ s.after (All-replicate Fits _ 0 (omega arith)) (fits_joined s.right s.after s.last)))
 
-below_replicate : (n : ℕ) → Below (replicate n 0)
-below_replicate zero = below_nil
-below_replicate (suc n) = below_cons 0 (replicate n 0) (omega arith) (below_replicate n)
-
-below_take : (n : ℕ) (gs : List ℕ) → Below gs → Below (take n gs)
-below_take zero gs a = below_nil
-below_take (suc n) [] a = below_nil
-below_take (suc n) (g ∷ gs) a = below_cons g (take n gs) (a 0) (below_take n gs (λ k. a (suc k)))
-
-below_drop : (n : ℕ) (gs : List ℕ) → Below gs → Below (drop n gs)
-below_drop n gs a k = rw (get_or-drop n gs k 0) (a (n + k))
-
-below_behind : (text gs : List ℕ) → Behind text gs → Below gs
-below_behind text [] b = below_nil
-below_behind text (g ∷ gs) b = below_cons g gs (group_small b.0 g b.3) (below_behind b.1 gs b.4)
-
-below_joined : (text gs : List ℕ) → Joined text gs → Below gs
-below_joined text [] j = below_nil
-below_joined text (g ∷ gs) j = below_cons g gs (group_small j.0 g j.3) (below_behind j.1 gs j.4)
-
-pub address_eight : (text gs : List ℕ) → Address text gs → length gs ≡ 8
-address_eight text gs (inl f) = f.eight
-address_eight text gs (inr s) =
-    ap length s.groups ∙ simp (length-append, length-replicate) (omega (arith, s.room))
-
+-- and so has what is read past the end, which is 0
 pub address_below : (text gs : List ℕ) → Address text gs → (k : ℕ) → get_or gs k 0 < 65536
-address_below text gs (inl f) = below_joined text gs f.spelt
-address_below text gs (inr s) =
-    subst Below (sym s.groups)
-    (below_append s.before _ (below_joined s.left s.before s.first) (below_append (replicate (8 - (length s.before + length s.after)) 0) s.after (below_replicate _) (below_joined s.right s.after s.last)))
+address_below text gs a k =
+    elim (cases_lt k (length gs)) [
+      | inl l ↦ All-get_or Fits gs k 0 l (fits_address text gs a)
+      | inr l ↦ rw (get_or_past gs k 0 l) (omega arith)
+    ]
 
 -- what is written can be read
-behind_spelt : (gs : List ℕ) → Below gs → Behind (behind gs) gs
+behind_spelt : (gs : List ℕ) → All Fits gs → Behind (behind gs) gs
 behind_spelt [] a = refl
-behind_spelt (g ∷ gs) a = (hex g, behind gs, refl, hex_group g (a 0), behind_spelt gs (λ k. a (suc k)))
+behind_spelt (g ∷ gs) a = (hex g, behind gs, refl, hex_group g (All-head Fits g gs a), behind_spelt gs (All-tail Fits g gs a))
 
-colons_spelt : (gs : List ℕ) → Below gs → Joined (colons gs) gs
+colons_spelt : (gs : List ℕ) → All Fits gs → Joined (colons gs) gs
 colons_spelt [] a = refl
-colons_spelt (g ∷ gs) a = (hex g, behind gs, refl, hex_group g (a 0), behind_spelt gs (λ k. a (suc k)))
+colons_spelt (g ∷ gs) a = (hex g, behind gs, refl, hex_group g (All-head Fits g gs a), behind_spelt gs (All-tail Fits g gs a))
 
-behind_short : (gs : List ℕ) → Below gs → length (behind gs) ≤ 5 * length gs
+behind_short : (gs : List ℕ) → All Fits gs → length (behind gs) ≤ 5 * length gs
 behind_short [] a = omega arith
-behind_short (g ∷ gs) a = omega (arith, length-append (hex g) (behind gs), (hex_group g (a 0)).few, behind_short gs (λ k. a (suc k)))
+behind_short (g ∷ gs) a = omega (arith, length-append (hex g) (behind gs), (hex_group g (All-head Fits g gs a)).few, behind_short gs (All-tail Fits g gs a))
 
-colons_short : (gs : List ℕ) → Below gs → length (colons gs) ≤ 5 * length gs - 1
+colons_short : (gs : List ℕ) → All Fits gs → length (colons gs) ≤ 5 * length gs - 1
 colons_short [] a = omega arith
-colons_short (g ∷ gs) a = omega (arith, length-append (hex g) (behind gs), (hex_group g (a 0)).few, behind_short gs (λ k. a (suc k)))
+colons_short (g ∷ gs) a = omega (arith, behind_short (g ∷ gs) a)
 
 -- one more group is written behind those that are
 
@@ -107,6 +90,10 @@ parts gs =
     cc
 
 module _ (gs : List ℕ) (eight : length gs ≡ 8) (each : (k : ℕ) → get_or gs k 0 < 65536) where
+  -- each group has sixteen bits
+  all : All Fits gs
+  all = All-from_get_or Fits gs 0 (λ k _. each k)
+
   lengths : run gs < length gs → (length (front gs) ≡ run gs) × (length (back gs) + run gs + zeros (drop (run gs) gs) ≡ 8)
   lengths h =
       let z = prefix_len-le-length (λ g. eqb g 0) (drop (run gs) gs) in
@@ -123,8 +110,8 @@ module _ (gs : List ℕ) (eight : length gs ≡ 8) (each : (k : ℕ) → get_or 
         before = front gs;
         after = back gs;
         spelt = refl;
-        first = colons_spelt (front gs) (below_take (run gs) gs each);
-        last = colons_spelt (back gs) (below_drop _ gs each);
+        first = colons_spelt (front gs) (All-take Fits (run gs) gs all);
+        last = colons_spelt (back gs) (All-drop Fits _ gs all);
         room = omega arith;
         groups = parts gs ∙ ap (λ n. front gs ++ (replicate n 0 ++ back gs)) some;
       }
@@ -134,13 +121,13 @@ module _ (gs : List ℕ) (eight : length gs ≡ 8) (each : (k : ℕ) → get_or 
   text6_address =
       elim (cases_lt (run gs) (length gs)) [
         | inl h ↦ inr (subst (λ t. Shortened t gs) (sym (text6_cut gs h)) (shortened h))
-        | inr h ↦ inl (subst (λ t. Full t gs) (sym (text6_whole gs h)) (record { eight = eight; spelt = colons_spelt gs each }))
+        | inr h ↦ inl (subst (λ t. Full t gs) (sym (text6_whole gs h)) (record { eight = eight; spelt = colons_spelt gs all }))
       ]
 
   -- it has at most eight groups of four digits, and seven colons
   pub text6_short : length (text6 gs) ≤ 39
   text6_short =
       elim (cases_lt (run gs) (length gs)) [
-        | inl h ↦ let n = lengths h in omega (arith, ap length (text6_cut gs h), run-zeros gs h, length-append (colons (front gs)) (58 ∷ (58 ∷ colons (back gs))), colons_short (front gs) (below_take (run gs) gs each), colons_short (back gs) (below_drop _ gs each))
-        | inr h ↦ omega (arith, ap length (text6_whole gs h), colons_short gs each)
+        | inl h ↦ let n = lengths h in omega (arith, ap length (text6_cut gs h), run-zeros gs h, length-append (colons (front gs)) (58 ∷ (58 ∷ colons (back gs))), colons_short (front gs) (All-take Fits (run gs) gs all), colons_short (back gs) (All-drop Fits _ gs all))
+        | inr h ↦ omega (arith, ap length (text6_whole gs h), colons_short gs all)
       ]

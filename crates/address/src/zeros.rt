@@ -13,7 +13,7 @@ fn leftmost_pair(groups: &[u16; 8]) -> Option<usize>
     groups.windows(2).position(|pair| matches!(pair, [0, 0]))
 }
 
-// How many zero groups begin these.
+// How many zero groups these begin with.
 fn leading_zeros(groups: &[u16]) -> usize
     ensures { result ≡ zeros groups.now }
 {

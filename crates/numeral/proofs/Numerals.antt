@@ -1,9 +1,8 @@
 -- Decimal numbers in text: what digits write, and that a text has one number and one rest.
-use Rattle.std.proofs.Common.{◌≡◌, ℕ, zero, suc, ◌+◌, ◌-◌, ◌*◌, ◌/◌, ◌%◌, ◌^◌, ◌<◌, ◌≤◌, true, false, List, [], ◌∷◌, ◌++◌, length, get_or, take, drop, decimal, sym, ap, ◌∙◌, arith, rules}
+use Rattle.std.proofs.Common.{◌≡◌, ℕ, zero, suc, ◌+◌, ◌-◌, ◌*◌, ◌^◌, ◌<◌, ◌≤◌, false, List, [], ◌∷◌, ◌++◌, length, get_or, take, drop, decimal, sym, ap, ◌∙◌, arith, rules}
 use Rattle.std.specs.Char.{is_ascii_digit}
 use Rattle.std.proofs.lemmas.Fmt as shelf
-use Rattle.std.proofs.lemmas.Fmt.{decimal_digit, decimal_step, digits_decimal, decimal_nonempty, first_decimal, length-decimal-le, decimal_injective}
-use Rattle.std.proofs.ByRecursion.{All-get_or, All-from_get_or}
+use Rattle.std.proofs.lemmas.Fmt.{decimal_digit, digits_decimal, decimal_nonempty, first_decimal, length-decimal-le, decimal_injective}
 use Rattle.std.proofs.lemmas.List.{take-append-drop}
 use Rattle.std.proofs.lemmas.Str.Parse.{IsNumeralModel, numerals_by_fold, tells_by_index}
 use Rattle.std.proofs.lemmas.Bool.Decides.{nat_tests}
@@ -14,38 +13,26 @@ pub value_on_ge : (n : ℕ) (cs : List ℕ) → n ≤ value_on n cs
 value_on_ge n [] = omega arith
 value_on_ge n (c ∷ cs) = omega (arith, value_on_ge (n * 10 + (c - 48)) cs)
 
-pub digit_true : (c : ℕ) → 48 ≤ c → c ≤ 57 → is_ascii_digit c ≡ true
-digit_true c l h = grind (arith, nat_tests)
-
-pub digit_from_true : (c : ℕ) → is_ascii_digit c ≡ true → (48 ≤ c) × (c ≤ 57)
-digit_from_true c e = grind (arith, nat_tests)
-
 pub no_digit : (stop : ℕ) (rest : List ℕ) → stop < 48 → decimals (stop ∷ rest) ≡ 0
 no_digit stop rest h = let e : is_ascii_digit stop ≡ false = grind (arith, nat_tests) in rw e
 
 -- the digits that begin a text are digits
 pub digits_front : (xs : List ℕ) → Digits (take (decimals xs) xs)
-digits_front xs k h = digit_from_true _ (All-get_or (λ c. is_ascii_digit c ≡ true) (take (decimals xs) xs) k 0 h (passes_front is_ascii_digit xs))
+digits_front xs k h = let e = passes_front is_ascii_digit xs k h in grind (arith, nat_tests)
 
 own : IsNumeralModel Digits (value_on 0)
 own = numerals_by_fold Digits tells_by_index value_on (search rules)
 
 -- the digits of a number
 
-pub decimal1 : (n : ℕ) → n < 10 → decimal n ≡ (48 + n) ∷ []
-decimal1 n h = decimal_digit n h
-
-pub decimal2 : (n : ℕ) → 10 ≤ n → n < 100 → decimal n ≡ (48 + n / 10) ∷ ((48 + n % 10) ∷ [])
-decimal2 n l h = decimal_step n l (omega arith) ∙ ap (λ d. d ++ ((48 + n % 10) ∷ [])) (decimal1 (n / 10) (omega arith))
-
 pub decimal_short : (n : ℕ) → n < 1000 → length (decimal n) ≤ 3
 decimal_short n h = length-decimal-le 3 n (omega arith) (omega arith) (omega arith)
 
 pub decimal_passes : (n : ℕ) → n < 2 ^ 64 → Passes is_ascii_digit (decimal n)
-decimal_passes n h = All-from_get_or (λ c. is_ascii_digit c ≡ true) (decimal n) 0 (λ k l. let d = digits_decimal own n h k l in digit_true _ d.0 d.1)
+decimal_passes n h k l = let d = digits_decimal own n h k l in grind (arith, nat_tests)
 
 lean_first : (n : ℕ) → n < 2 ^ 64 → get_or (decimal n) 0 0 ≡ 48 → length (decimal n) ≡ 1
-lean_first zero h e = ap length (decimal1 0 (omega arith))
+lean_first zero h e = ap length (decimal_digit 0 (omega arith))
 lean_first (suc n) h e = absurd (omega (arith, first_decimal (suc n) (omega arith) h))
 
 pub decimal_lean : (n : ℕ) → n < 2 ^ 64 → Lean (decimal n)

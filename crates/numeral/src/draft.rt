@@ -1,4 +1,4 @@
-// The draft that a text is written to before it is handed out: a contract sees the text.
+// The draft that a text is written to before it is handed out: contracts see a draft as its text.
 use std::marker::Model;
 
 // The longest text of a prefix, of either family: eight groups of four digits, seven colons, a slash

@@ -1,6 +1,6 @@
 // What a reader found at the front of a text.
 
-// A value, and the text behind the one that it was read from.
+// A value read from the front of a text, and the rest of that text.
 #[derive(Clone, Copy, PartialEq, Eq, Debug)]
 pub struct Leading<'a, T> {
     pub value: T,
