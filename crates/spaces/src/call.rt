@@ -36,7 +36,7 @@ impl fmt::Display for Answer {
 
 // Makes a call on a space.
 pub fn perform<S: Space>(space: &mut S, call: Call) -> Answer
-    ensures { Performed call (S.Space.meaning space.old) result (S.Space.meaning space.new) }
+    ensures { Performed call (S.meaning space.old) result (S.meaning space.new) }
 {
     match call {
         Call::Take(n) => Answer::Said(space.take(n)),
@@ -58,9 +58,9 @@ pub struct Both {
 // Makes a call on two spaces. Those that mean the same answer the same and go on meaning the same, whatever
 // their make.
 pub fn perform_both<A: Space, B: Space>(a: &mut A, b: &mut B, call: Call) -> Both
-    ensures one { Performed call (A.Space.meaning a.old) result.one (A.Space.meaning a.new) }
-    ensures other { Performed call (B.Space.meaning b.old) result.other (B.Space.meaning b.new) }
-    ensures alike { A.Space.meaning a.old ≡ B.Space.meaning b.old → (result.one ≡ result.other) × (A.Space.meaning a.new ≡ B.Space.meaning b.new) }
+    ensures one { Performed call (A.meaning a.old) result.one (A.meaning a.new) }
+    ensures other { Performed call (B.meaning b.old) result.other (B.meaning b.new) }
+    ensures alike { A.meaning a.old ≡ B.meaning b.old → (result.one ≡ result.other) × (A.meaning a.new ≡ B.meaning b.new) }
 {
     let one = perform(a, call);
     let other = perform(b, call);
@@ -74,8 +74,8 @@ pub fn run<A: Space, B: Space>(
     b: &mut B,
     calls: &[Call],
 ) -> Result<Vec<Both>, AllocError>
-    ensures ran { IfOk result (λ v. Ran calls.now (A.Space.meaning a.old) (B.Space.meaning b.old) v.items (A.Space.meaning a.new) (B.Space.meaning b.new)) }
-    ensures alike { IfOk result (λ v. A.Space.meaning a.old ≡ B.Space.meaning b.old → Alike v.items × (A.Space.meaning a.new ≡ B.Space.meaning b.new)) }
+    ensures ran { IfOk result (λ v. Ran calls.now (A.meaning a.old) (B.meaning b.old) v.items (A.meaning a.new) (B.meaning b.new)) }
+    ensures alike { IfOk result (λ v. A.meaning a.old ≡ B.meaning b.old → Alike v.items × (A.meaning a.new ≡ B.meaning b.new)) }
 {
     let mut answers = Vec::new(heap);
     for call in calls {

@@ -57,7 +57,7 @@ fn read_run(heap: Global, line: &str) -> Result<Run, Trouble> {
     Ok(Run { depth, calls })
 }
 
-// The units of a space of this depth; none where it would be shut.
+// The units of a space of this depth; 0 where it would be shut.
 fn units_of(depth: usize) -> usize
     ensures { result ≤ 4096 }
 {

@@ -9,10 +9,10 @@ use Rattle.prefix.specs.Groups.{whole, Eight}
 use Rattle.prefix.specs.Eights.{whole_one, whole_small, below_eight}
 use Rattle.text.specs.Families.{groups, Spelt6, written6}
 
-whole-groups : (n : ℕ) → n < 2 ^ 128 → whole (groups n) ≡ n
+pub whole-groups : (n : ℕ) → n < 2 ^ 128 → whole (groups n) ≡ n
 whole-groups n h = omega arith
 
-groups_eight : (n : ℕ) → n < 2 ^ 128 → Eight (groups n)
+pub groups_eight : (n : ℕ) → n < 2 ^ 128 → Eight (groups n)
 groups_eight n h =
     let below = below_eight (λ k. slice_index (groups n) k < 65536) (omega arith) (omega arith) (omega arith) (omega arith) (omega arith) (omega arith) (omega arith) (omega arith) in
     record { count = refl; each = λ k. ⊎_elim (below k) (λ past. omega (arith, get_or_past (groups n) k 0 past)) (cases_lt k 8) }
