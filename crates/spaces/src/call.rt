@@ -13,8 +13,11 @@ pub enum Call {
     Open(usize),
     Out(usize),
     Busy(usize),
-    // within, depth, from
-    Seek(usize, usize, usize),
+    Seek {
+        within: usize,
+        depth: usize,
+        from: usize,
+    },
 }
 
 #[derive(Clone, Copy)]
@@ -44,7 +47,11 @@ pub fn perform<S: Space>(space: &mut S, call: Call) -> Answer
         Call::Open(n) => Answer::Said(space.open(n)),
         Call::Out(n) => Answer::Said(space.out(n)),
         Call::Busy(w) => Answer::Said(space.busy(w)),
-        Call::Seek(w, d, f) => Answer::Found(space.seek(w, d, f)),
+        Call::Seek {
+            within,
+            depth,
+            from,
+        } => Answer::Found(space.seek(within, depth, from)),
     }
 }
 

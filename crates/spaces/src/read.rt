@@ -36,7 +36,11 @@ fn seek(numbers: &[u8]) -> Result<Call, Fault>
     let within = number_before(numbers, MOST, b',')?;
     let depth = number_before(within.rest, MOST, b',')?;
     let from = number(depth.rest, MOST)?;
-    Ok(Call::Seek(within.value as usize, depth.value as usize, from as usize))
+    Ok(Call::Seek {
+        within: within.value as usize,
+        depth: depth.value as usize,
+        from: from as usize,
+    })
 }
 
 // The call that a text spells.
