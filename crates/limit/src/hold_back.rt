@@ -32,6 +32,8 @@ fn beside(n: usize) -> Option<usize>
 }
 
 impl Rule for HoldBack {
+    const LOOKS: bool = false;
+
     ghost test = { λ s depth set n. not (overlap n s.held) };
 
     fn allows<S: Space>(&self, _space: &S, n: usize) -> bool {

@@ -30,7 +30,11 @@ impl<S: Space, R: Rule> Space for Limited<S, R> {
     }
 
     fn open(&self, n: usize) -> bool {
-        self.below.open(n) && self.rule.allows(&self.below, n)
+        if R::LOOKS {
+            self.below.open(n) && self.rule.allows(&self.below, n)
+        } else {
+            self.rule.allows(&self.below, n) && self.below.open(n)
+        }
     }
 
     fn out(&self, n: usize) -> bool {
@@ -54,8 +58,13 @@ impl<S: Space, R: Rule> Space for Limited<S, R> {
         }
     }
 
+    // The take below asks whether n is open there: only a rule that looks asks that before.
     fn take(&mut self, n: usize) -> bool {
-        self.open(n) && self.below.take(n)
+        if R::LOOKS {
+            self.open(n) && self.below.take(n)
+        } else {
+            self.rule.allows(&self.below, n) && self.below.take(n)
+        }
     }
 
     fn give(&mut self, n: usize) -> bool {

@@ -7,6 +7,9 @@ use space::Space;
 
 // A rule is asked about the space that it limits, and keeps no count of its own.
 pub trait Rule {
+    // Whether an answer takes a look at the places out. Such a rule is asked last, any other first.
+    const LOOKS: bool = true;
+
     // Whether a place is allowed, for a depth and a set of places out.
     ghost test: { Self → ℕ → (ℕ → Bool) → ℕ → Bool };
 
