@@ -4,11 +4,13 @@ use Rattle.std.proofs.Math.Bool.{or_comm}
 use Rattle.std.proofs.lemmas.Nat.{le-div, div_below, shl-shr}
 use Rattle.std.proofs.lemmas.Bool.{cases_lt, both_ways, or_cases, or_left, not-true, not-false, not_from_false, false_from_ne_true}
 use Rattle.space.specs.Places.{lies, overlap, depth_of}
+use Rattle.space.specs.Meaning.{Meaning, answers}
 use Rattle.space.proofs.Depths.{depth_le, depth_bounds, depth_halved, halved_pos, place_of}
 use Rattle.space.proofs.Lies.{lies_pos, lies_le}
 use Rattle.space.proofs.Halving.{lies_halved, lies_by_depths, run_over}
-use Rattle.limit.specs.Limits.{may_follow}
-use Rattle.limit.proofs.Searching.{follow_parts, follow_from}
+use Rattle.limit.specs.Limits.{held_back, may_follow}
+use Rattle.limit.proofs.Opening.{limited-answers}
+use Rattle.limit.proofs.Searching.{follow_parts, follow_from, none_below}
 
 -- the hold-back's test
 abbrev clear_of : ℕ → ℕ → Bool
@@ -121,3 +123,13 @@ module _ (n h k : ℕ) (steps : k ≡ depth_of n - depth_of h) (no : false ≡ n
         let e : next * 2 ^ k % 2 ^ 64 ≡ next * 2 ^ k = mod-eq_of_lt (fits lt) in
         let none : (j : ℕ) → j < next * 2 ^ k → may_follow (clear_of h) n j ≡ false = λ j low. refused j (rw (← at) low) in
         rw e (follow_from (clear_of h) n (next * 2 ^ k) (omega arith) depth_beside (not_from_false (overlap (next * 2 ^ k) h) free), none)
+
+-- a search so far: nothing answers before r, where all from the first find below up to r overlap h
+module _ (m : Meaning) (h w d f from : ℕ) (le : f ≤ from) (before : (k : ℕ) → k < from → answers (held_back m h) w d f k ≡ false) where
+  pub held_past : (n r : ℕ) → ((k : ℕ) → k < n → answers m w d from k ≡ false) → ((j : ℕ) → n ≤ j → j < r → overlap j h ≡ true) → (k : ℕ) → k < r → answers (held_back m h) w d f k ≡ false
+  held_past n r g o k lt =
+      ⊎_elim
+      (λ a. none_below m (λ set j. not (overlap j h)) w d f from le before k (g k a))
+      (λ b. false_from_ne_true (answers (held_back m h) w d f k) (λ t.
+      both_ways (overlap k h) (not-true (overlap k h) (limited-answers m (λ set j. not (overlap j h)) w d f 0 k (omega arith) t).1) (o k b lt)))
+      (cases_lt k n)

@@ -1,3 +1,5 @@
+pub mod Opening
 pub mod Searching
 pub mod Holding
 pub mod Walking
+pub mod Rationing

@@ -4,8 +4,9 @@ use Rattle.std.proofs.lemmas.Bool.{and_parts, and_from, cases_lt, both_ways, leb
 use Rattle.space.specs.Places.{depth_of}
 use Rattle.space.specs.Meaning.{Meaning, answers}
 use Rattle.space.proofs.Depths.{depth_at}
-use Rattle.space.proofs.Opening.{open_parts, open_from, answer_parts, answer_from, no_answer}
+use Rattle.space.proofs.Opening.{answer_parts, answer_from, no_answer}
 use Rattle.limit.specs.Limits.{limited, may_follow}
+use Rattle.limit.proofs.Opening.{limited-answers}
 
 pub follow_parts : (test : ℕ → Bool) (n k : ℕ) → may_follow test n k ≡ true → (n ≤ k) × (depth_of k ≡ depth_of n) × (test k ≡ true)
 follow_parts test n k e =
@@ -18,19 +19,11 @@ follow_from test n k le e t = and_from _ _ (le-leb n k le) (and_from _ _ (eq-eqb
 
 -- the search so far: from `from` on in the space below, with nothing found before
 module _ (m : Meaning) (test : (ℕ → Bool) → ℕ → Bool) (w d f from : ℕ) (le : f ≤ from) (before : (k : ℕ) → k < from → answers (limited m test) w d f k ≡ false) where
-  -- what answers under the limit answers below, and passes the test
-  answer_below : (k : ℕ) → from ≤ k → answers (limited m test) w d f k ≡ true → (answers m w d from k ≡ true) × (test m.out k ≡ true)
-  answer_below k high e =
-      let a = answer_parts (limited m test) w d f k e in
-      let o = open_parts (limited m test) k a.is in
-      let t = and_parts (m.rule m.out k) _ o.allowed in
-      (answer_from m w d from k (record { at = a.at; under = a.under; from = high; is = open_from m k (record { at = o.at; free = o.free; allowed = t.0 }) }), t.1)
-
   pub none_below : (k : ℕ) → answers m w d from k ≡ false → answers (limited m test) w d f k ≡ false
   none_below k e =
       ⊎_elim
       (λ a. before k a)
-      (λ b. no_answer (limited m test) w d f k (λ a. both_ways _ e (answer_below k b (answer_from (limited m test) w d f k a)).0))
+      (λ b. no_answer (limited m test) w d f k (λ a. both_ways _ e (limited-answers m test w d f from k b (answer_from (limited m test) w d f k a)).0))
       (cases_lt k from)
 
   module _ (n : ℕ) (at : answers m w d from n ≡ true) where
@@ -42,6 +35,6 @@ module _ (m : Meaning) (test : (ℕ → Bool) → ℕ → Bool) (w d f from : �
         (λ ge. no_answer (limited m test) w d f k (λ a.
         let b = answer_parts m w d from n at in
         let low = b.from in
-        let t = answer_below k (omega arith) (answer_from (limited m test) w d f k a) in
+        let t = limited-answers m test w d f from k (omega arith) (answer_from (limited m test) w d f k a) in
         both_ways _ e (follow_from (test m.out) n k ge (depth_at d k a.at ∙ sym (depth_at d n b.at)) t.1)))
         (cases_lt k n)

@@ -15,7 +15,7 @@ pub none_at : (d : ℕ) (set : ℕ → Bool) (n : ℕ) → set n ≡ false → u
 none_at d set n e = cond-false _ _ _ (and_right _ _ e)
 
 -- nothing is added by what lies in n
-under_none : (h : ℕ) (f : ℕ → ℕ) (n : ℕ) → 0 < n → ((k : ℕ) → lies k n ≡ true → f k ≡ 0) → sum_under h f n ≡ 0
+pub under_none : (h : ℕ) (f : ℕ → ℕ) (n : ℕ) → 0 < n → ((k : ℕ) → lies k n ≡ true → f k ≡ 0) → sum_under h f n ≡ 0
 unfolding sum_under
 under_none zero f n pos e = e n (lies_self n pos)
 under_none (suc h) f n pos e =
