@@ -1,13 +1,13 @@
 -- A walk from a place up to the root that sets each byte right.
-use Rattle.std.proofs.Common.{◌≡◌, ℕ, ◌+◌, ◌*◌, ◌/◌, ◌^◌, ◌<◌, ◌≤◌, Bool, true, false, cond, eqb, ◌≢◌, List, length, set, sym, refl, ap, ◌∙◌, ⊎_elim, arith, get_or-set_other, get_or-set_same, length-set, shr-shr}
+use Rattle.std.proofs.Common.{◌≡◌, ℕ, ◌+◌, ◌*◌, ◌/◌, ◌^◌, ◌<◌, ◌≤◌, Bool, true, false, cond, eqb, ◌≢◌, List, length, set, sym, refl, ap, ◌∙◌, ⊎_elim, arith, get_or-set_other, get_or-set_same, length-set}
 use mathlib.Core.Path.{fun_ext}
 use Rattle.std.proofs.lemmas.Bool.{cases_eq, or_left, or_right, lt-ltb, ne_eqb, eq-eqb, both_ways}
 use Rattle.std.proofs.lemmas.Bool.Decides.{nat_tests}
 use Rattle.std.specs.Int.{from_bool}
-use Rattle.space.specs.Places.{lies, overlap, is_place, depth_of}
+use Rattle.space.specs.Places.{lies, overlap, is_place}
 use Rattle.space.specs.Meaning.{adding, removing}
 use Rattle.space.proofs.Lies.{lies_self, lies_half, lies_le, lies_pos}
-use Rattle.space.proofs.Depths.{pow_more, place_of, place_pos, place_below, halved_pos, halved_none}
+use Rattle.space.proofs.Depths.{pow_more, place_of, place_pos, place_below}
 use Rattle.tree.specs.Tree.{byte, node, Tidy, tree_out}
 use Rattle.tree.specs.Sound.{inner, agrees_low}
 use Rattle.tree.proofs.Agreeing.{low_node, above_agrees, above_no_one, set_has}
@@ -40,6 +40,16 @@ pub record Climb (d n : ℕ) (out : Bool) (e b : List ℕ) (a : ℕ) : Type 0 wh
   pub free : (k : ℕ) → lies a k ≡ true → byte b k ≡ 1 → ⊥
   pub ones : (k : ℕ) → eqb (byte b k) 1 ≡ cond (eqb k n) out (eqb (byte e k) 1)
   pub beyond : (k : ℕ) → is_place d k ≡ false → byte b k ≡ byte e k
+  pub over : out ≡ true → 0 < a → 0 < byte b (2 * a) + byte b (2 * a + 1)
+
+-- the byte above one that is set
+pub parent_set : (b : List ℕ) (i v : ℕ) → 0 < v → i < length b → 0 < byte (set b i v) (2 * (i / 2)) + byte (set b i v) (2 * (i / 2) + 1)
+parent_set b i v pos lt =
+    let s = byte_same b i v lt in
+    ⊎_elim
+    (λ e. let t : byte (set b i v) (2 * (i / 2)) ≡ v = ap (byte (set b i v)) (sym e) ∙ s in omega arith)
+    (λ ne. let e : i ≡ 2 * (i / 2) + 1 = omega arith in let t : byte (set b i v) (2 * (i / 2) + 1) ≡ v = ap (byte (set b i v)) (sym e) ∙ s in omega arith)
+    (cases_eq i (2 * (i / 2)))
 
 -- the walk's start: no other place out overlaps n
 module _ (d n : ℕ) (out : Bool) (e : List ℕ) (live : 0 < d) (pl : is_place d n ≡ true) (long : 2 ^ (d + 1) ≤ length e) (tidy : Tidy d e)
@@ -92,10 +102,11 @@ module _ (d n : ℕ) (out : Bool) (e : List ℕ) (live : 0 < d) (pl : is_place d
             (λ ne. rw (ne_eqb k n ne) (ap (λ x. eqb x 1) (byte_other e n v k ne)))
             (cases_eq k n);
         beyond = λ k off. byte_beyond d e n v k pl off;
+        over = λ t h. parent_set e n v (let one : from_bool out ≡ 1 = rw t refl in omega arith) (omega arith);
       }
 
 module _ {d n : ℕ} {out : Bool} {e b : List ℕ} where
-  climb_step : (a v : ℕ) → Climb d n out e b a → 0 < a → v ≡ cond (eqb (byte b (2 * a) + byte b (2 * a + 1)) 0) 0 2 → Climb d n out e (set b a v) (a / 2)
+  pub climb_step : (a v : ℕ) → Climb d n out e b a → 0 < a → v ≡ cond (eqb (byte b (2 * a) + byte b (2 * a + 1)) 0) 0 2 → Climb d n out e (set b a v) (a / 2)
   climb_step a v w pos is =
       let p = pow_more d in
       let lw = w.low in
@@ -118,16 +129,17 @@ module _ {d n : ℕ} {out : Bool} {e b : List ℕ} where
             (λ other. ap (λ x. eqb x 1) (byte_other b a v k other) ∙ w.ones k)
             (cases_eq k a);
         beyond = λ k off. byte_beyond d b a v k (place_of d a pos (omega arith)) off ∙ w.beyond k off;
+        over = λ t h. let s = w.over t pos in parent_set b a v (grind (arith, nat_tests)) (omega arith);
       }
 
-  -- the step from k halvings of n to one more
-  pub climb_more : (k v : ℕ) → is_place d n ≡ true → k ≤ depth_of n → Climb d n out e b (n / 2 ^ k)
-      → v ≡ cond (eqb (byte b (2 * (n / 2 ^ k)) + byte b (2 * (n / 2 ^ k) + 1)) 0) 0 2 → Climb d n out e (set b (n / 2 ^ k) v) (n / 2 ^ (k + 1))
-  climb_more k v pl le w is = rw (← shr-shr n k 1) (climb_step (n / 2 ^ k) v w (halved_pos n k (place_pos d n pl) le) is)
+  -- that step, of the bytes written
+  pub climb_write : (a i v : ℕ) (c : List ℕ) → Climb d n out e b a → 0 < a → c ≡ set b i v → i ≡ a
+      → v ≡ cond (eqb (byte b (2 * a) + byte b (2 * a + 1)) 0) 0 2 → Climb d n out e c (a / 2)
+  climb_write a i v c w pos new at is = rw (new, at) (climb_step a v w pos is)
 
   -- the walk's end, at the root
-  pub climb_end : (k : ℕ) → depth_of n < k → Climb d n out e b (n / 2 ^ k) → Tidy d b
-  climb_end k lt w j pl = w.rest j pl (λ q. let pos = place_pos d j pl in omega (arith, halved_none n k lt))
+  pub climb_end : (a : ℕ) → Climb d n out e b a → a ≡ 0 → Tidy d b
+  climb_end a w z j pl = w.rest j pl (λ q. let pos = place_pos d j pl in omega arith)
 
 pub climb_outs : {d n : ℕ} {out : Bool} {e b : List ℕ} {a : ℕ} → 0 < d → is_place d n ≡ true → Climb d n out e b a
     → tree_out d b ≡ cond out (adding (tree_out d e) n) (removing (tree_out d e) n)

@@ -1,4 +1,3 @@
-pub mod Inclusive
 pub mod Agreeing
 pub mod Climb
 pub mod Hits

@@ -66,12 +66,19 @@ impl<'a> BuddyTree<'a> {
         ensures named { self.new.bytes.ghost_name ≡ self.old.bytes.ghost_name }
         ensures beyond { (k : ℕ) → 2 ^ (self.old.depth + 1) ≤ k → byte self.new.bytes.now k ≡ byte self.old.bytes.now k }
     {
-        // Works on the bytes and not on `self`: they are not tidy until the walk up ends.
+        // Works on the bytes and not on `self`: they are not tidy until the walk up ends. A place above one
+        // that is out is 2, so that a take need not read.
         let b = &mut *self.bytes;
         b[n] = u8::from(out);
-        for k in 1..=depth_of(n) {
-            let a = n >> k;
-            b[a] = above(b[2 * a], b[2 * a + 1]);
+        let mut a = n / 2;
+        while a > 0 {
+            if out {
+                b[a] = 2;
+            } else {
+                let v = above(b[2 * a], b[2 * a + 1]);
+                b[a] = v;
+            }
+            a /= 2;
         }
     }
 
@@ -81,7 +88,7 @@ impl<'a> BuddyTree<'a> {
         requires place { is_place self.now.depth n ≡ true }
         ensures { MatchOption result ((k : ℕ) → 0 < k → k ≤ depth_of n → byte self.now.bytes.now (n / 2 ^ k) ≢ 1) (λ k. (k < 64) × (k ≤ depth_of n) × (byte self.now.bytes.now (n / 2 ^ k) ≡ 1)) }
     {
-        (1..=depth_of(n)).find(|k| self.bytes[n >> *k] == 1)
+        (1..depth_of(n) + 1).find(|k| self.bytes[n >> *k] == 1)
     }
 
     // Nothing where n overlaps no place out; else a number from n on, up to which every place overlaps one.
