@@ -1,5 +1,6 @@
 -- Tests and sums over the numbers below a bound.
-use Rattle.std.proofs.Common.{◌≡◌, ℕ, zero, suc, ◌+◌, ◌<◌, Bool, true, false, sym, refl, ap, ◌∙◌, ⊎_elim, arith}
+use Rattle.std.proofs.Common.{◌≡◌, ℕ, zero, suc, ◌+◌, ◌^◌, ◌<◌, Bool, true, false, sym, refl, ap, ◌∙◌, ⊎_elim, arith}
+use native.Mathlib.Nat.{two-pow-succ}
 use Rattle.std.proofs.lemmas.Bool.{cases_eq, or_cases, or_parts, or_from, or_left, or_right, both_ways}
 use Rattle.space.specs.Bounded.{some_below, sum_below}
 
@@ -48,3 +49,26 @@ sum_same (suc n) f g h =
     let a = h n (omega arith) in
     let b = sum_same n f g (λ k lt. h k (omega arith)) in
     omega arith
+
+pub sum_first : (n : ℕ) (f : ℕ → ℕ) → sum_below (suc n) f ≡ f 0 + sum_below n (λ i. f (suc i))
+unfolding sum_below
+sum_first zero f = refl
+sum_first (suc n) f = let ih = sum_first n f in let g : sum_below (suc n) f ≡ f n + sum_below n f = refl in omega arith
+
+pub sum_add : (n : ℕ) (f g : ℕ → ℕ) → sum_below n (λ i. f i + g i) ≡ sum_below n f + sum_below n g
+unfolding sum_below
+sum_add zero f g = refl
+sum_add (suc n) f g = let ih = sum_add n f g in omega arith
+
+pub sum_none : (x : ℕ) (f : ℕ → ℕ) → x + sum_below 0 f ≡ x
+unfolding sum_below
+sum_none x f = omega arith
+
+-- the numbers below a power of two, depth by depth
+pub sum_by_depth : (d : ℕ) (f : ℕ → ℕ) → sum_below (2 ^ d) f ≡ f 0 + sum_below d (λ e. sum_below (2 ^ e) (λ i. f (2 ^ e + i)))
+unfolding sum_below
+sum_by_depth zero f = refl
+sum_by_depth (suc d) f =
+    let ih = sum_by_depth d f in
+    let s = sum_split (2 ^ d) (2 ^ d) f in
+    rw (two-pow-succ d) (let z : sum_below (2 ^ d + 2 ^ d) f ≡ f 0 + (sum_below (2 ^ d) (λ i. f (2 ^ d + i)) + sum_below d (λ e. sum_below (2 ^ e) (λ i. f (2 ^ e + i)))) = omega arith in z)

@@ -1,6 +1,6 @@
 -- `lies` is what halving gives: n lies in m where n / 2 ^ k is m for some k.
-use Rattle.std.proofs.Common.{◌≡◌, ℕ, zero, suc, ◌+◌, ◌-◌, ◌*◌, ◌/◌, ◌^◌, ◌<◌, ◌≤◌, true, sym, ap, ◌∙◌, ⊎_elim, div-mul-le_self, arith, pow_pos}
-use Rattle.std.proofs.lemmas.Nat.{le-div, div_below}
+use Rattle.std.proofs.Common.{◌≡◌, ℕ, zero, suc, ◌+◌, ◌-◌, ◌*◌, ◌/◌, ◌^◌, ◌<◌, ◌≤◌, true, false, is_some, Some, None, Option, sym, ap, ◌∙◌, ⊎_elim, add-mul, div-mul-le_self, arith, pow_pos, MatchOption}
+use Rattle.std.proofs.lemmas.Nat.{le-div, div_below, mul-le}
 use Rattle.std.proofs.lemmas.Bool.{cases_lt}
 use Rattle.space.specs.Places.{lies, depth_of}
 use Rattle.space.proofs.Depths.{half_more, depth_halved}
@@ -27,6 +27,10 @@ lies_by_depths n m l =
     let k : depth_of n - depth_of m ≡ t.0 = omega arith in
     (pos, omega arith, ap (λ x. n / 2 ^ x) k ∙ t.1)
 
+pub some_lies : (o : Option ℕ) (n m : ℕ) → MatchOption o (lies n m ≡ false) (λ k. (0 < m) × (n / 2 ^ k ≡ m)) → is_some o ≡ lies n m
+some_lies (Some k) n m h = sym (lies_halved k n m h.0 h.1)
+some_lies None n m h = sym h
+
 -- of two places over one place, one lies in the other
 pub lies_nested : (a b c : ℕ) → b ≤ c → 0 < b → lies a b ≡ true → lies a c ≡ true → lies c b ≡ true
 lies_nested a b c bc pos x y =
@@ -37,6 +41,13 @@ lies_nested a b c bc pos x y =
 module _ (k n h : ℕ) (pos : 0 < h) (e : n / 2 ^ k ≡ h) where
   pub run_over : n < (h + 1) * 2 ^ k
   run_over = ⊎_elim (λ lt. lt) (λ ge. let q = le-div (h + 1) n (2 ^ k) (pow_pos k) ge in absurd (omega arith)) (cases_lt n ((h + 1) * 2 ^ k))
+
+  pub run_short : (h + 1) * 2 ^ k ≤ 2 * n
+  run_short =
+      let a : h * 2 ^ k ≤ n = rw e at (div-mul-le_self n (2 ^ k)) in
+      let b = mul-le 1 (2 ^ k) h (2 ^ k) pos (omega arith) in
+      let c = add-mul h 1 (2 ^ k) in
+      omega arith
 
   pub run_lies : (j : ℕ) → n ≤ j → j < (h + 1) * 2 ^ k → lies j h ≡ true
   run_lies j le lt =

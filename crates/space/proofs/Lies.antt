@@ -49,12 +49,15 @@ lies_by_off (suc k) n m h =
     (λ nz. lies_by_half k n m (omega arith) (λ e. ⊎_elim (λ x. omega arith) (λ x. omega arith) h) ∙ lies_by_off k (n / 2) m (⊎_elim (λ x. inl x) (λ x. inr (omega arith)) h))
     (cases_eq n 0)
 
+pub lies_above : (n m : ℕ) → n < m → lies n m ≡ false
+lies_above n m h = lies_by_off n n m (inr h)
+
 pub lies_none : (n : ℕ) → lies n 0 ≡ false
 lies_none n = lies_by_off n n 0 (inl refl)
 
 -- lies is an order: n lies in m only if m ≤ n
 pub lies_le : (n m : ℕ) → lies n m ≡ true → m ≤ n
-lies_le n m e = ⊎_elim (λ lt. absurd (both_ways (lies n m) (lies_by_off n n m (inr lt)) e)) (λ le. le) (cases_lt n m)
+lies_le n m e = ⊎_elim (λ lt. absurd (both_ways (lies n m) (lies_above n m lt) e)) (λ le. le) (cases_lt n m)
 
 pub lies_pos : (n m : ℕ) → lies n m ≡ true → 0 < m
 lies_pos n m l =

@@ -1,11 +1,11 @@
 -- What is open, what answers a search, and what a set is after a change.
-use Rattle.std.proofs.Common.{◌≡◌, ℕ, ◌<◌, ◌≤◌, true, false, not, leb, sym, ap, ⊎_elim, arith}
+use Rattle.std.proofs.Common.{◌≡◌, ℕ, ◌+◌, ◌^◌, ◌<◌, ◌≤◌, Bool, true, false, not, leb, sym, ap, ⊎_elim, arith}
 use mathlib.Core.Path.{fun_ext}
 use Rattle.std.proofs.lemmas.Bool.{cases_eq, and_parts, and_from, leb-true, le-leb, not-true, not_from_false, cond-true, false_from_ne_true}
 use Rattle.std.proofs.lemmas.Bool.Decides.{nat_tests}
-use Rattle.space.specs.Places.{lies, is_place, at_depth}
-use Rattle.space.specs.Meaning.{Meaning, is_open, blocked, answers, adding, having, after_take, after_give}
-use Rattle.space.proofs.Depths.{depth_at, depth_le}
+use Rattle.space.specs.Places.{lies, is_place, at_depth, depth_of}
+use Rattle.space.specs.Meaning.{Meaning, is_open, blocked, answers, removing, adding, having, after_take, after_give}
+use Rattle.space.proofs.Depths.{place_below, depth_at, depth_le}
 
 pub record Open (m : Meaning) (n : ℕ) : Type 0 where
   pub at : is_place m.depth n ≡ true
@@ -21,6 +21,12 @@ module _ (m : Meaning) (n : ℕ) where
 
   pub open_from : Open m n → is_open m n ≡ true
   open_from o = and_from _ _ o.at (and_from _ _ (not_from_false (blocked m n) o.free) o.allowed)
+
+  pub open_below : is_open m n ≡ true → n < 2 ^ (m.depth + 1)
+  open_below e = place_below m.depth n (open_parts e).at
+
+  pub open_depth : is_open m n ≡ true → depth_of n ≤ m.depth
+  open_depth e = depth_le m.depth n (open_parts e).at
 
 -- what answers a search
 pub record Answer (m : Meaning) (w d f k : ℕ) : Type 0 where
@@ -44,7 +50,11 @@ module _ (m : Meaning) (w d f k : ℕ) where
   no_answer f' = false_from_ne_true (answers m w d f k) (λ e. f' (answer_parts e))
 
   pub too_deep : m.depth < d → answers m w d f k ≡ false
-  too_deep lt = no_answer (λ a. let l = depth_at d k a.at in let le = depth_le m.depth k (open_parts m k a.is).at in omega arith)
+  too_deep lt = no_answer (λ a. let l = depth_at d k a.at in let le = open_depth m k a.is in omega arith)
+
+-- removing what is not there
+pub removing_none : (set : ℕ → Bool) (n : ℕ) → set n ≡ false → removing set n ≡ set
+removing_none set n e = fun_ext (λ k. ⊎_elim (λ q. grind (arith, nat_tests, ap set q)) (λ ne. grind (arith, nat_tests)) (cases_eq k n))
 
 -- the meaning after a take that is granted, and after a give that is refused
 module _ (m : Meaning) (n : ℕ) where
@@ -52,4 +62,4 @@ module _ (m : Meaning) (n : ℕ) where
   took e = ap (having m) (sym (cond-true (is_open m n) (adding m.out n) m.out e))
 
   pub gave_none : m.out n ≡ false → m ≡ after_give m n
-  gave_none e = ap (having m) (fun_ext (λ k. ⊎_elim (λ q. grind (arith, nat_tests, ap m.out q)) (λ ne. grind (arith, nat_tests)) (cases_eq k n)))
+  gave_none e = ap (having m) (sym (removing_none m.out n e))

@@ -7,8 +7,8 @@ use Rattle.space.specs.Places.{lies, overlap, is_place, at_depth, depth_of, size
 use Rattle.space.specs.Meaning.{Meaning, Least, Free, blocked, answers}
 use Rattle.space.proofs.Lies.{lies_each, lies_le, lies_pos}
 use Rattle.space.proofs.Halving.{lies_halved, lies_by_depths, lies_nested}
-use Rattle.space.proofs.Depths.{depth_at, depth_half, depth_bounds, place_of, place_below}
-use Rattle.space.proofs.Opening.{no_answer, answer_from, answer_parts, open_parts, open_from}
+use Rattle.space.proofs.Depths.{depth_at, depth_half, depth_bounds, place_of}
+use Rattle.space.proofs.Opening.{no_answer, answer_from, answer_parts, open_parts, open_from, open_below}
 
 pub size_pos : (d n : ℕ) → 0 < size d n
 size_pos d n = pow_pos (d - depth_of n)
@@ -98,7 +98,7 @@ pub answer_place : (m : Meaning) (w d f k : ℕ) → answers m w d f k ≡ true 
 answer_place m w d f k e =
     let a = answer_parts m w d f k e in
     let le = lies_le k w a.under in
-    let lt = place_below m.depth k (open_parts m k a.is).at in
+    let lt = open_below m k a.is in
     place_of m.depth w (lies_pos k w a.under) (omega arith)
 
 pub answer_high : (m : Meaning) (w d f k : ℕ) → d < depth_of w → answers m w d f k ≡ false
