@@ -8,7 +8,7 @@ use Rattle.space.specs.Places.{lies}
 use Rattle.space.proofs.Lies.{lies_none}
 use Rattle.tree.specs.Tree.{byte, Tidy, tree_out, others, byte_of, drawn}
 use Rattle.tree.specs.Sound.{out_parts}
-use Rattle.tree.proofs.Agreeing.{two, zero_under, set_has}
+use Rattle.tree.proofs.Agreeing.{two, zero_under, out_in}
 use Rattle.tree.proofs.Hits.{out_from, some_out, none_out}
 
 -- a byte by its three cases
@@ -25,7 +25,7 @@ module _ (d : ℕ) (b : List ℕ) (live : 0 < d) (tidy : Tidy d b) (first : byte
       (λ not-one. false_from_ne_true (tree_out d b n) (λ e. not-one (out_parts d b n e).one))
       (λ z. none_out d b inside (λ k o e. zero_under d b tidy n pos z k o (and_parts (lies k n) _ e).0))
       (λ not-one nz.
-      let t = set_has d b tidy n live pos low nz in
+      let t = out_in d b tidy n live pos low nz in
       let ne : t.0 ≡ n → ⊥ = λ q. not-one (rw q at t.1.one) in
       ((two d b tidy n pos low not-one nz).1, some_out d b inside t.0 t.1 (and_from (lies t.0 n) _ t.2 (not_from_false (eqb t.0 n) (ne_eqb t.0 n ne)))))
 

@@ -13,7 +13,7 @@ use Rattle.space.proofs.Ranges.{range_within}
 use Rattle.space.proofs.Depths.{place_of, place_pos, place_below, depth_le, depth_halved, halved_pos}
 use Rattle.tree.specs.Tree.{byte, Tidy, tree_out, tree_meaning, Blocked}
 use Rattle.tree.specs.Sound.{Out, out_parts}
-use Rattle.tree.proofs.Agreeing.{zero_under, set_has}
+use Rattle.tree.proofs.Agreeing.{zero_under, out_in}
 
 pub out_from : (d : ℕ) (b : List ℕ) (n : ℕ) → Out d b n → tree_out d b n ≡ true
 out_from d b n o = and_from _ _ (lt-ltb 0 d o.live) (and_from _ _ (place_of d n o.pos o.low) (eq-eqb (byte b n) 1 o.one))
@@ -28,60 +28,87 @@ module _ (d : ℕ) (b : List ℕ) (p : ℕ → Bool) where
       none_below (2 ^ (d + 1)) (λ j. tree_out d b j && p j)
       (λ k lt. false_from_ne_true (tree_out d b k && p k) (λ e. let t = and_parts (tree_out d b k) _ e in never k (out_parts d b k t.0) t.1))
 
--- where n halved k times is out, all places of n's depth in it overlap that, from n to the last
-pub hit_row : (d : ℕ) (b : List ℕ) (n k : ℕ) → 0 < d → d ≤ 12 → is_place d n ≡ true → k ≤ depth_of n → byte b (n / 2 ^ k) ≡ 1
+module _ (d : ℕ) (b : List ℕ) (live : 0 < d) where
+  pub hit_at : (n k : ℕ) → 0 < k → k < 2 ^ (d + 1) → byte b k ≡ 1 → overlap k n ≡ true → blocked (tree_meaning d b) n ≡ true
+  hit_at n k pos low one e = some_out d b (λ j. overlap j n) k (record { live = live; pos = pos; low = low; one = one }) e
+
+  -- all places that n halved k times has of n's depth, from n to the last
+  pub hit_row : (n k : ℕ) → 0 < n / 2 ^ k → n < 2 ^ (d + 1) → k ≤ d → byte b (n / 2 ^ k) ≡ 1 → Blocked (tree_meaning d b) n ((n / 2 ^ k + 1) * 2 ^ k - 1)
+  hit_row n k pos low deep one =
+      let a = n / 2 ^ k in
+      let top = depth_of n + 1 in
+      let up = shr_le n k in
+      let pl = place_of d n (omega arith) low in
+      let e : size (depth_of n) a ≡ 2 ^ k = ap (λ x. 2 ^ x) (let z : depth_of n - depth_of a ≡ k = omega (arith, depth_halved k n pos) in z) in
+      let row = rw e at (range_within a (depth_of n) pos (omega (arith, depth_halved k n pos))) in
+      let within : 2 ^ top ≤ 2 ^ (d + 1) = (let l : top ≤ d + 1 = omega (arith, depth_le d n pl) in pow_mono l) in
+      let over = run_over k n a pos refl in
+      record {
+        from = omega arith;
+        low = omega (arith, row.1);
+        all = λ j lo hi. hit_at j a pos (omega arith) one (or_right (lies a j) (lies j a) (run_lies k n a pos refl j lo (omega arith)));
+      }
+
+-- the same where n lies at most as deep as a word is long: the last one as its shift says it
+pub hit_last : (d : ℕ) (b : List ℕ) (n k : ℕ) → 0 < d → d ≤ 12 → is_place d n ≡ true → k ≤ depth_of n → byte b (n / 2 ^ k) ≡ 1
     → Blocked (tree_meaning d b) n ((n / 2 ^ k + 1) * 2 ^ k % 2 ^ 64 - 1)
-hit_row d b n k live shallow pl le one =
-    let a = n / 2 ^ k in
-    let top = depth_of n + 1 in
-    let pos = halved_pos n k (place_pos d n pl) le in
-    let e : size (depth_of n) a ≡ 2 ^ k = ap (λ x. 2 ^ x) (let z : depth_of n - depth_of a ≡ k = omega (arith, depth_halved k n pos) in z) in
-    let row = rw e at (range_within a (depth_of n) pos (omega (arith, depth_halved k n pos))) in
-    let within : 2 ^ top ≤ 2 ^ (d + 1) = (let l : top ≤ d + 1 = omega (arith, depth_le d n pl) in pow_mono l) in
+hit_last d b n k live shallow pl le one =
+    let low = place_below d n pl in
+    let deep = depth_le d n pl in
+    let hit = hit_row d b live n k (halved_pos n k (place_pos d n pl) le) low (omega arith) one in
     let small : 2 ^ (d + 1) ≤ 2 ^ 13 = (let l : d + 1 ≤ 13 = omega arith in pow_mono l) in
-    let over = run_over k n a pos refl in
-    let up = shr_le n k in
-    let o : Out d b a = record { live = live; pos = pos; low = omega (arith, place_below d n pl); one = one } in
-    record {
-      from = omega arith;
-      low = omega (arith, row.1);
-      all = λ j lo hi. some_out d b (λ i. overlap i j) a o (or_right (lies a j) (lies j a) (run_lies k n a pos refl j lo (omega arith)));
-    }
+    let e : (n / 2 ^ k + 1) * 2 ^ k % 2 ^ 64 ≡ (n / 2 ^ k + 1) * 2 ^ k = omega (arith, hit.low) in
+    rw e hit
 
 module _ (d : ℕ) (b : List ℕ) (live : 0 < d) (tidy : Tidy d b) where
+  pub hit_none : (n : ℕ) → 0 < n → byte b n ≡ 0 → ((k : ℕ) → lies n k ≡ true → byte b k ≡ 1 → ⊥) → blocked (tree_meaning d b) n ≡ false
+  hit_none n pos z free = none_out d b (λ j. overlap j n) (λ j o both.
+      ⊎_elim (λ l. zero_under d b tidy n pos z j o l) (λ l. free j l o.one) (or_cases (lies j n) (lies n j) both))
+
+  pub hit_set : (n : ℕ) → 0 < n → n < 2 ^ (d + 1) → (byte b n ≡ 0 → ⊥) → blocked (tree_meaning d b) n ≡ true
+  hit_set n pos low nz =
+      let t = out_in d b tidy n live pos low nz in
+      some_out d b (λ j. overlap j n) t.0 t.1 (or_left (lies t.0 n) (lies n t.0) t.2)
+
   -- of the walk up from n: it ends at n, and it ends at the root
   pub hit_self : (n : ℕ) → is_place d n ≡ true → (byte b n ≡ 0 → ⊥) → Blocked (tree_meaning d b) n n
   hit_self n pl nz =
       let low = place_below d n pl in
-      let t = set_has d b tidy n live (place_pos d n pl) low nz in
-      let hit = some_out d b (λ j. overlap j n) t.0 t.1 (or_left (lies t.0 n) (lies n t.0) t.2) in
       record {
         from = omega arith;
         low = low;
-        all = λ j lo hi. let e : j ≡ n = omega arith in ap (blocked (tree_meaning d b)) e ∙ hit;
+        all = λ j lo hi. let e : j ≡ n = omega arith in ap (blocked (tree_meaning d b)) e ∙ hit_set n (place_pos d n pl) low nz;
       }
 
   pub hit_nowhere : (n : ℕ) → is_place d n ≡ true → byte b n ≡ 0 → ((k : ℕ) → 0 < k → k ≤ depth_of n → byte b (n / 2 ^ k) ≡ 1 → ⊥)
       → blocked (tree_meaning d b) n ≡ false
-  hit_nowhere n pl z none = none_out d b (λ j. overlap j n) (λ j o both.
-      ⊎_elim
-      (λ l. zero_under d b tidy n (place_pos d n pl) z j o l)
-      (λ l.
+  hit_nowhere n pl z none = hit_none n (place_pos d n pl) z (λ j l one.
       let t = lies_by_depths n j l in
       let k = depth_of n - depth_of j in
-      let one = ap (byte b) t.2 ∙ o.one in
+      let up = ap (byte b) t.2 ∙ one in
       ⊎_elim
       (λ q. let e : n / 2 ^ k ≡ n = ap (λ x. n / 2 ^ x) q ∙ (let w : n / 2 ^ 0 ≡ n = omega arith in w) in omega (arith, ap (byte b) e))
-      (λ nz. none k (omega arith) (omega arith) one)
+      (λ nz. none k (omega arith) (omega arith) up)
       (cases_eq k 0))
-      (or_cases (lies j n) (lies n j) both))
+
+  -- the other way: what is not blocked is clear, with nothing out above it
+  pub clear_here : (n : ℕ) → 0 < n → n < 2 ^ (d + 1) → blocked (tree_meaning d b) n ≡ false → byte b n ≡ 0
+  clear_here n pos low e =
+      ⊎_elim (λ z. z)
+      (λ nz. absurd (both_ways (blocked (tree_meaning d b) n) e (hit_set n pos low nz)))
+      (cases_eq (byte b n) 0)
+
+  pub clear_above : (n : ℕ) → n < 2 ^ (d + 1) → blocked (tree_meaning d b) n ≡ false → (k : ℕ) → lies n k ≡ true → byte b k ≡ 1 → ⊥
+  clear_above n low e k l one =
+      let le = lies_le n k l in
+      both_ways (blocked (tree_meaning d b) n) e (hit_at d b live n k (lies_pos n k l) (omega arith) one (or_right (lies k n) (lies n k) l))
 
   -- a place out lies in w where w's byte is set
   pub busy_set : (w : ℕ) → 0 < w → w < 2 ^ (d + 1) → not (eqb (byte b w) 0) ≡ is_busy (tree_meaning d b) w
   busy_set w pos low =
       ⊎_elim
       (λ z. rw (eq-eqb (byte b w) 0 z) (sym (none_out d b (λ j. lies j w) (zero_under d b tidy w pos z))))
-      (λ nz. let t = set_has d b tidy w live pos low nz in rw (ne_eqb (byte b w) 0 nz) (sym (some_out d b (λ j. lies j w) t.0 t.1 t.2)))
+      (λ nz. let t = out_in d b tidy w live pos low nz in rw (ne_eqb (byte b w) 0 nz) (sym (some_out d b (λ j. lies j w) t.0 t.1 t.2)))
       (cases_eq (byte b w) 0)
 
 -- no place out overlaps what is open

@@ -1,4 +1,4 @@
-use Rattle.tree.proofs.Hits.{hit_self, hit_row, hit_nowhere}
+use Rattle.tree.proofs.Hits.{hit_self, hit_last, hit_nowhere}
 use Rattle.tree.proofs.BuddyTree.obstacle.Goals as goal
 
 pub returns-then-self-n-ne0 : goal.returns-then-self-n-ne0
@@ -15,4 +15,4 @@ pub returns : goal.returns
 returns c =
     let s = c.args.self.now in
     let k = c.in_ok-k.ensures in
-    hit_row s.depth s.bytes.now c.args.n c.in_ok-k.k c.requires.live s.shallow c.requires.place k.1 k.2
+    hit_last s.depth s.bytes.now c.args.n c.in_ok-k.k c.requires.live s.shallow c.requires.place k.1 k.2

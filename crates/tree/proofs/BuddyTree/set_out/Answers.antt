@@ -1,6 +1,6 @@
 use Rattle.std.proofs.Common.{◌<◌, refl, ◌∙◌, arith}
 use Rattle.std.proofs.lemmas.Bool.Decides.{nat_tests}
-use Rattle.tree.proofs.Climb.{climb_start, climb_write, climb_end, climb_outs}
+use Rattle.tree.proofs.Climb.{climb_start, climb_take, climb_give, climb_end, climb_outs}
 use Rattle.tree.proofs.BuddyTree.set_out.Goals as goal
 use Rattle.tree.proofs.BuddyTree.set_out.Goals.{then-out, else-out}
 
@@ -8,15 +8,15 @@ pub loop-a-init : goal.loop-a-init
 loop-a-init c =
     let s = c.args.self.now in
     let r = c.requires in
-    climb_start s.depth c.args.n c.args.out s.bytes.now r.live r.place (s.sized r.live) (s.tidy r.live) r.apart _ (grind arith)
+    climb_start s.depth c.args.n c.args.out s.bytes.now r.live r.place (s.sized r.live) (s.tidy r.live) r.apart _ (omega (arith, c.from.ensures))
 
 pub loop-a-preserved : goal.loop-a-preserved
 loop-a-preserved c =
     let w = c.loop-a.invariant in
     let pos : 0 < c.loop-a.a = omega arith in
     elim c.if-out.branch [
-      | then-out t ↦ let set = w.over t.if-out.true pos in climb_write c.loop-a.a _ _ _ w pos t.b-is (omega arith) (grind (arith, nat_tests))
-      | else-out t ↦ climb_write c.loop-a.a _ _ _ w pos t.b-is (omega arith) (grind (arith, nat_tests))
+      | then-out t ↦ climb_take c.loop-a.a _ _ _ w pos t.b-is (omega arith) t.if-out.true (omega arith)
+      | else-out t ↦ climb_give c.loop-a.a _ _ _ _ _ w pos t.b-is (omega arith) (omega arith) t.above-v.ensures (omega arith)
     ]
 
 pub invariant_of-self : goal.invariant_of-self
