@@ -66,36 +66,19 @@ parent_set b i v pos lt =
     (λ ne. let e : i ≡ 2 * (i / 2) + 1 = omega arith in let t : byte (set b i v) (2 * (i / 2) + 1) ≡ v = ap (byte (set b i v)) (sym e) ∙ s in omega arith)
     (cases_eq i (2 * (i / 2)))
 
--- the walk's start: no other place out overlaps n
-module _ (d n : ℕ) (out : Bool) (e : List ℕ) (live : 0 < d) (pl : is_place d n ≡ true) (long : 2 ^ (d + 1) ≤ length e) (tidy : Tidy d e)
-    (apart : (k : ℕ) → tree_out d e k ≡ true → overlap k n ≡ true → k ≡ n) where
-  none_above : (k : ℕ) → lies n k ≡ true → (k ≡ n → ⊥) → byte e k ≡ 1 → ⊥
-  none_above k l ne one =
-      let o = out_from d e k (record { live = live; pos = lies_pos n k l; low = omega (arith, lies_le n k l, place_below d n pl); one = one }) in
-      ne (apart k o (or_right (lies k n) (lies n k) l))
-
-  none_below : n < 2 ^ d → byte e (2 * n) + byte e (2 * n + 1) ≡ 0
-  none_below lt =
-      let pos = place_pos d n pl in
-      let low : byte e n < 2 = ⊎_elim
-      (λ z. omega arith)
-      (λ nz.
-      let t = out_in d e tidy n live pos (place_below d n pl) nz in
-      let one = rw (apart t.0 (out_from d e t.0 t.1) (or_left (lies t.0 n) (lies n t.0) t.2)) at t.1.one in
-      omega arith)
-      (cases_eq (byte e n) 0) in
-      agrees_low (byte e n) _ (inner d e tidy n pos lt) low
-
+-- the walk's start, in tidy bytes: nothing is set below n, and no place above it is out
+module _ (d n : ℕ) (out : Bool) (e : List ℕ) (pl : is_place d n ≡ true) (long : 2 ^ (d + 1) ≤ length e) (tidy : Tidy d e) where
   -- n itself: 1 or 0, with nothing below
-  here : (v : ℕ) → v < 2 → node d (set e n v) n ≡ true
-  here v small =
+  here : (v : ℕ) → v < 2 → (n < 2 ^ d → byte e (2 * n) + byte e (2 * n + 1) ≡ 0) → node d (set e n v) n ≡ true
+  here v small none =
       let low = place_below d n pl in
       let pos = place_pos d n pl in
       low_node d (set e n v) n (omega (arith, byte_same e n v (omega arith)))
-      (λ lt. rw (byte_other e n v (2 * n) (λ q. omega arith), byte_other e n v (2 * n + 1) (λ q. omega arith)) (none_below lt))
+      (λ lt. rw (byte_other e n v (2 * n) (λ q. omega arith), byte_other e n v (2 * n + 1) (λ q. omega arith)) (none lt))
 
-  pub climb_start : (v : ℕ) → v ≡ from_bool out → Climb d n out e (set e n v) (n / 2)
-  climb_start v is =
+  pub climb_start : (v : ℕ) → v ≡ from_bool out → (n < 2 ^ d → byte e (2 * n) + byte e (2 * n + 1) ≡ 0)
+      → ((k : ℕ) → lies n k ≡ true → (k ≡ n → ⊥) → byte e k ≡ 1 → ⊥) → Climb d n out e (set e n v) (n / 2)
+  climb_start v is none free =
       let p = pow_more d in
       let low = place_below d n pl in
       let pos = place_pos d n pl in
@@ -104,13 +87,13 @@ module _ (d n : ℕ) (out : Bool) (e : List ℕ) (live : 0 < d) (pl : is_place d
         long = omega (arith, length-set e n v);
         rest = λ k pk ne.
             ⊎_elim
-            (λ same. rw same (here v (rw is (from_bool_bit out).0)))
+            (λ same. rw same (here v (rw is (from_bool_bit out).0) none))
             (λ other. node_other d e n v k other (λ q. omega arith) (λ q. omega arith) (tidy k pk))
             (cases_eq k n);
         free = λ k l one.
             let le = lies_le (n / 2) k l in
             let ne : k ≡ n → ⊥ = λ q. omega arith in
-            none_above k (lies_half n k pos (λ q. omega arith) ∙ l) ne (sym (byte_other e n v k ne) ∙ one);
+            free k (lies_half n k pos (λ q. omega arith) ∙ l) ne (sym (byte_other e n v k ne) ∙ one);
         ones = λ k.
             ⊎_elim
             (λ q. rw (eq-eqb k n q) (ap (λ x. eqb x 1) (ap (byte (set e n v)) q ∙ byte_same e n v (omega arith) ∙ is) ∙ (from_bool_bit out).1))
@@ -119,6 +102,28 @@ module _ (d n : ℕ) (out : Bool) (e : List ℕ) (live : 0 < d) (pl : is_place d
         beyond = λ k off. byte_beyond d e n v k pl off;
         over = λ t h. parent_set e n v (let one : from_bool out ≡ 1 = rw t refl in omega arith) (omega arith);
       }
+
+  -- that is so where no other place out overlaps n
+  module _ (live : 0 < d) (apart : (k : ℕ) → tree_out d e k ≡ true → overlap k n ≡ true → k ≡ n) where
+    none_above : (k : ℕ) → lies n k ≡ true → (k ≡ n → ⊥) → byte e k ≡ 1 → ⊥
+    none_above k l ne one =
+        let o = out_from d e k (record { live = live; pos = lies_pos n k l; low = omega (arith, lies_le n k l, place_below d n pl); one = one }) in
+        ne (apart k o (or_right (lies k n) (lies n k) l))
+
+    none_below : n < 2 ^ d → byte e (2 * n) + byte e (2 * n + 1) ≡ 0
+    none_below lt =
+        let pos = place_pos d n pl in
+        let low : byte e n < 2 = ⊎_elim
+        (λ z. omega arith)
+        (λ nz.
+        let t = out_in d e tidy n live pos (place_below d n pl) nz in
+        let one = rw (apart t.0 (out_from d e t.0 t.1) (or_left (lies t.0 n) (lies n t.0) t.2)) at t.1.one in
+        omega arith)
+        (cases_eq (byte e n) 0) in
+        agrees_low (byte e n) _ (inner d e tidy n pos lt) low
+
+    pub climb_from : (v : ℕ) → v ≡ from_bool out → Climb d n out e (set e n v) (n / 2)
+    climb_from v is = climb_start v is none_below none_above
 
 module _ {d n : ℕ} {out : Bool} {e b : List ℕ} where
   pub climb_step : (a v : ℕ) → Climb d n out e b a → 0 < a → (v ≡ 1 → ⊥) → agrees true v (byte b (2 * a) + byte b (2 * a + 1)) ≡ true → Climb d n out e (set b a v) (a / 2)

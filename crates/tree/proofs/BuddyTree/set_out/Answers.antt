@@ -1,6 +1,6 @@
 use Rattle.std.proofs.Common.{◌<◌, refl, ◌∙◌, arith}
 use Rattle.std.proofs.lemmas.Bool.Decides.{nat_tests}
-use Rattle.tree.proofs.Climb.{climb_start, climb_take, climb_give, climb_end, climb_outs}
+use Rattle.tree.proofs.Climb.{climb_from, climb_take, climb_give, climb_end, climb_outs}
 use Rattle.tree.proofs.BuddyTree.set_out.Goals as goal
 use Rattle.tree.proofs.BuddyTree.set_out.Goals.{then-out, else-out}
 
@@ -8,7 +8,7 @@ pub loop-a-init : goal.loop-a-init
 loop-a-init c =
     let s = c.args.self.now in
     let r = c.requires in
-    climb_start s.depth c.args.n c.args.out s.bytes.now r.live r.place (s.sized r.live) (s.tidy r.live) r.apart _ (omega (arith, c.from.ensures))
+    climb_from s.depth c.args.n c.args.out s.bytes.now r.place (s.sized r.live) (s.tidy r.live) r.live r.apart _ (omega (arith, c.from.ensures))
 
 pub loop-a-preserved : goal.loop-a-preserved
 loop-a-preserved c =
