@@ -49,15 +49,15 @@ module _ (d : ℕ) (b : List ℕ) (live : 0 < d) where
         all = λ j lo hi. hit_at j a pos (omega arith) one (or_right (lies a j) (lies j a) (run_lies k n a pos refl j lo (omega arith)));
       }
 
--- the same where n lies at most as deep as a word is long: the last one as its shift says it
-pub hit_last : (d : ℕ) (b : List ℕ) (n k : ℕ) → 0 < d → d ≤ 12 → is_place d n ≡ true → k ≤ depth_of n → byte b (n / 2 ^ k) ≡ 1
-    → Blocked (tree_meaning d b) n ((n / 2 ^ k + 1) * 2 ^ k % 2 ^ 64 - 1)
-hit_last d b n k live shallow pl le one =
+-- the same in a tree, whose numbers a word holds: the last one as a shift says it
+pub hit_last : (d : ℕ) (b : List ℕ) (n k last : ℕ) → 0 < d → d ≤ 12 → is_place d n ≡ true → k ≤ depth_of n → byte b (n / 2 ^ k) ≡ 1
+    → last ≡ (n / 2 ^ k + 1) * 2 ^ k % 2 ^ 64 - 1 → Blocked (tree_meaning d b) n last
+hit_last d b n k last live shallow pl le one is =
     let low = place_below d n pl in
     let deep = depth_le d n pl in
     let hit = hit_row d b live n k (halved_pos n k (place_pos d n pl) le) low (omega arith) one in
     let small : 2 ^ (d + 1) ≤ 2 ^ 13 = (let l : d + 1 ≤ 13 = omega arith in pow_mono l) in
-    let e : (n / 2 ^ k + 1) * 2 ^ k % 2 ^ 64 ≡ (n / 2 ^ k + 1) * 2 ^ k = omega (arith, hit.low) in
+    let e : last ≡ (n / 2 ^ k + 1) * 2 ^ k - 1 = omega (arith, hit.low) in
     rw e hit
 
 module _ (d : ℕ) (b : List ℕ) (live : 0 < d) (tidy : Tidy d b) where

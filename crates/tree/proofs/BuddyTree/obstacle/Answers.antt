@@ -1,3 +1,4 @@
+use Rattle.std.proofs.Common.{arith}
 use Rattle.tree.proofs.Hits.{hit_self, hit_last, hit_nowhere}
 use Rattle.tree.proofs.BuddyTree.obstacle.Goals as goal
 
@@ -15,4 +16,4 @@ pub returns : goal.returns
 returns c =
     let s = c.args.self.now in
     let k = c.in_ok-k.ensures in
-    hit_last s.depth s.bytes.now c.args.n c.in_ok-k.k c.requires.live s.shallow c.requires.place k.1 k.2
+    hit_last s.depth s.bytes.now c.args.n c.in_ok-k.k _ c.requires.live s.shallow c.requires.place k.1 k.2 (omega arith)
