@@ -106,11 +106,15 @@ pub trait Family {
     {
         let r = Self::length(root);
         let l = Self::length(p);
-        if depth > 12 || depth > Self::WIDTH - r || !Self::covers(root, p) || l - r > depth {
+        let above = Self::WIDTH - r;
+        if depth > 12 || depth > above || l < r || l - r > depth {
+            return 0;
+        }
+        let n = Self::number(Self::first(p));
+        if shift::upper(n, above) != shift::upper(Self::number(Self::first(root)), above) {
             return 0;
         }
         let below = l - r;
-        let n = Self::number(Self::first(p));
         (1usize << below) + shift::lower(shift::upper(n, Self::WIDTH - l), below) as usize
     }
 
