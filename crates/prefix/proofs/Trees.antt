@@ -1,8 +1,8 @@
 -- The blocks of a tree under a root, at any width: a block of k bits more than the root's r, e bits before the end.
-use Rattle.std.proofs.Common.{◌≡◌, ℕ, ◌+◌, ◌-◌, ◌*◌, ◌/◌, ◌%◌, ◌^◌, ◌<◌, ◌≤◌, true, sym, ap, ◌∙◌, subst, ⊎_elim, mul_assoc, add-mul, arith, pow-add, pow_mono}
+use Rattle.std.proofs.Common.{◌≡◌, ℕ, ◌+◌, ◌-◌, ◌*◌, ◌/◌, ◌%◌, ◌^◌, ◌<◌, ◌≤◌, true, false, sym, ap, ◌∙◌, subst, ⊎_elim, mul_assoc, add-mul, arith, pow-add, pow_mono}
 use native.Mathlib.Nat.{mul-mod_left}
 use Rattle.std.proofs.lemmas.Nat.{pow_pos, shr_split, shl_below, shr_below, shr_high, mod_low, shl-shr, mul-add-lt, mod_below, mod-pow-add, shl_whole}
-use Rattle.std.proofs.lemmas.Bool.{cases_lt}
+use Rattle.std.proofs.lemmas.Bool.{cond-false, cases_lt}
 use Rattle.std.proofs.lemmas.Bool.Decides.{nat_tests}
 use Rattle.prefix.specs.Bits.{front, middle}
 use Rattle.prefix.specs.Form.{Block}
@@ -83,6 +83,19 @@ module _ (w : ℕ) (root : Block) (v : Valid w root) (n k : ℕ) (inside : root.
       let b : belongs w root d (block_down w root k n) ≡ true = grind (arith, nat_tests, down_front) in
       rw b down_middle
 
+-- the four ways in which a number is no place
+pub too_deep : (w : ℕ) (root : Block) (d n : ℕ) → 12 < d → is_place w root d n ≡ false
+too_deep w root d n h = grind (arith, nat_tests)
+
+pub too_narrow : (w : ℕ) (root : Block) (d n : ℕ) → w < root.length + d → is_place w root d n ≡ false
+too_narrow w root d n h = grind (arith, nat_tests)
+
+pub no_zero : (w : ℕ) (root : Block) (d n : ℕ) → n ≡ 0 → is_place w root d n ≡ false
+no_zero w root d n h = grind (arith, nat_tests)
+
+pub too_far : (w : ℕ) (root : Block) (d n : ℕ) → 2 ^ (d + 1) ≤ n → is_place w root d n ≡ false
+too_far w root d n h = grind (arith, nat_tests)
+
 -- `2 << d`, where it fits
 pub shifted_two : (d : ℕ) → d ≤ 12 → (2 * 2 ^ d) % 2 ^ 64 ≡ 2 ^ (d + 1)
 shifted_two d h = omega (arith, shl_whole 2 2 d 64 (omega arith) (omega arith), pow-add 2 d 1)
@@ -137,3 +150,7 @@ module _ (w : ℕ) (root b : Block) (d : ℕ) (vr : Valid w root) (vb : Valid w 
       let f : root.first + (place w root d b - 2 ^ (b.length - root.length)) * 2 ^ (w - (root.length + (b.length - root.length))) ≡ b.first =
       ap (λ x. root.first + x * 2 ^ (w - (root.length + (b.length - root.length)))) n ∙ ap (λ x. root.first + path * 2 ^ (w - x)) l ∙ first_is in
       block_same _ b.first _ b.length f l
+
+-- where it does not belong, its place is 0
+pub no_place : (w : ℕ) (root b : Block) (d : ℕ) → belongs w root d b ≡ false → place w root d b ≡ 0
+no_place w root b d out = cond-false (belongs w root d b) _ 0 out

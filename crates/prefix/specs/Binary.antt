@@ -11,6 +11,18 @@ use Rattle.prefix.specs.Bits.{bit, front}
 low_bit : (k j n : ℕ) → j < k → bit_at n j ≡ bit_at (n % 2 ^ k) j
 low_bit k j n h = ap (λ v. bit_at v j) (sym (shr_split n k)) ∙ bit_at_cat_low (n / 2 ^ k) k (n % 2 ^ k) j h
 
+-- the last k bits of two numbers, counted from the end, are the same
+abbrev same_bits : ℕ → ℕ → ℕ → Type 0
+same_bits k x y = (j : ℕ) → j < k → x / 2 ^ j % 2 ≡ y / 2 ^ j % 2
+
+pub mod_from_bits : (k x y : ℕ) → same_bits k x y → x % 2 ^ k ≡ y % 2 ^ k
+mod_from_bits k x y same =
+    same_from_bits_below k (x % 2 ^ k) (y % 2 ^ k) (mod_below x (2 ^ k) (pow_pos k)) (mod_below y (2 ^ k) (pow_pos k))
+    (λ j h. sym (low_bit k j x h) ∙ same j h ∙ low_bit k j y h)
+
+pub bits_from_mod : (k x y : ℕ) → x % 2 ^ k ≡ y % 2 ^ k → same_bits k x y
+bits_from_mod k x y e j h = low_bit k j x h ∙ ap (λ v. bit_at v j) e ∙ sym (low_bit k j y h)
+
 module _ (w l : ℕ) (lw : l ≤ w) where
   -- bit i of the first l bits, counted from their end
   front-bit : (x i : ℕ) → i < l → bit w x i ≡ bit_at (front w l x) (l - 1 - i)

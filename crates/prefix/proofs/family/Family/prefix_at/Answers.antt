@@ -7,7 +7,7 @@ use Rattle.prefix.specs.Bits.{cleared}
 use Rattle.prefix.specs.Form.{Block, block}
 use Rattle.prefix.specs.Places.{fits, place, is_place, block_down}
 use Rattle.prefix.proofs.Making.{cleared_same, block_same}
-use Rattle.prefix.proofs.Trees.{shifted_two, depth_below, depth_one, path_small, down_below, down_clear, place_down}
+use Rattle.prefix.proofs.Trees.{too_deep, too_narrow, no_zero, too_far, shifted_two, depth_below, depth_one, path_small, down_below, down_clear, place_down}
 use Rattle.prefix.proofs.family.Family.prefix_at.Given.{Over}
 use Rattle.prefix.proofs.family.Family.prefix_at.Goals as goal
 use Rattle.prefix.proofs.family.Family.prefix_at.Goals.{After-number, After-raised, then-depth-gt12-via-then-depth-gt12, then-depth-gt12-via-else-depth-gt12+then-depth-WIDTH, then-depth-gt12-via-else-depth-gt12+else-depth-WIDTH+then-n-eq0, then-depth-gt12-via-else-depth-gt12+else-depth-WIDTH+else-n-eq0+then-n-depth}
@@ -20,10 +20,10 @@ returns-then-depth-gt12 g c =
     let n = c.args.n in
     let no : is_place w root d n ≡ false =
     elim c.then-depth-gt12.branch [
-      | then-depth-gt12-via-then-depth-gt12 x ↦ grind (arith, nat_tests)
-      | then-depth-gt12-via-else-depth-gt12+then-depth-WIDTH x ↦ grind (arith, nat_tests, g.met.Self.Family.valid c.args.root.now)
-      | then-depth-gt12-via-else-depth-gt12+else-depth-WIDTH+then-n-eq0 x ↦ grind (arith, nat_tests)
-      | then-depth-gt12-via-else-depth-gt12+else-depth-WIDTH+else-n-eq0+then-n-depth x ↦ grind (arith, nat_tests, shifted_two d x.if-depth-gt12.false)
+      | then-depth-gt12-via-then-depth-gt12 x ↦ too_deep w root d n x.if-depth-gt12.true
+      | then-depth-gt12-via-else-depth-gt12+then-depth-WIDTH x ↦ too_narrow w root d n (omega (arith, (g.met.Self.Family.valid c.args.root.now).within))
+      | then-depth-gt12-via-else-depth-gt12+else-depth-WIDTH+then-n-eq0 x ↦ no_zero w root d n x.if-n-eq0.true
+      | then-depth-gt12-via-else-depth-gt12+else-depth-WIDTH+else-n-eq0+then-n-depth x ↦ too_far w root d n (omega (arith, shifted_two d x.if-depth-gt12.false))
     ] in
     record { inside = λ k t. absurd (both_ways _ no t); outside = λ _. refl; back = λ t. absurd (both_ways _ no t) }
 
