@@ -19,13 +19,13 @@ module _ (bytes : List ℕ) (n b : ℕ) (room : n < 43) where
       cc
 
 pub invariant_of-self : goal.invariant_of-self
-invariant_of-self c = (omega arith, length-set _ _ _ ∙ c.self.invariant.1, one_less _ _ _ c.if-self-lt-LONGEST.true c.self.invariant.2)
+invariant_of-self c = (omega arith, length-set _ _ _ ∙ c.self.invariant.1, one_less _ _ _ c.if-at-lt-LONGEST.true c.self.invariant.2)
 
-pub returns-then-self-lt-LONGEST : goal.returns-then-self-lt-LONGEST
-returns-then-self-lt-LONGEST c = one_more _ _ _ c.if-self-lt-LONGEST.true c.args.self.now c.args.b c.self.invariant.1 c.self.view_is (omega arith)
+pub returns-then-at-lt-LONGEST : goal.returns-then-at-lt-LONGEST
+returns-then-at-lt-LONGEST c = one_more _ _ _ c.if-at-lt-LONGEST.true c.args.self.now c.args.b c.self.invariant.1 c.self.view_is (omega arith)
 
-pub returns-else-self-lt-LONGEST : goal.returns-else-self-lt-LONGEST
-returns-else-self-lt-LONGEST c =
+pub returns-else-at-lt-LONGEST : goal.returns-else-at-lt-LONGEST
+returns-else-at-lt-LONGEST c =
     let t = c.args.self.now in
     let full : length t ≡ 43 = omega (arith, ap length c.self.view_is, length-take {A = ℕ}) in
     sym (take-append-le 43 t (c.args.b ∷ []) (omega arith) ∙ take_all 43 t (omega arith))
