@@ -5,7 +5,8 @@ use Rattle.std.specs.Str.Parse.{AllDigits as HexDigits, digits_value}
 use Rattle.std.specs.Char.{is_ascii_hexdigit, digit_value}
 use Rattle.std.proofs.lemmas.Fmt.{digits_is_IsNumeral}
 use Rattle.std.proofs.lemmas.Int.Digits.{digits_value-lt}
-use Rattle.std.proofs.lemmas.List.{length_push}
+use Rattle.std.proofs.ByRecursion.{All-get_or, All-take}
+use Rattle.std.proofs.lemmas.List.{length_push, length-take}
 use Rattle.std.proofs.lemmas.List.Folds.{length-prefix_len}
 use Rattle.std.proofs.lemmas.Bool.{leb-true, cases_Bool, cases_lt, and_parts}
 use Rattle.std.proofs.lemmas.Bool.Decides.{nat_tests}
@@ -15,24 +16,32 @@ use Rattle.numeral.proofs.Runs.{Passes, passes_front, leading_append, take_leadi
 
 -- digits, as a test and by their values
 
--- each byte of digits is a digit
-pub hex_at : (ds : List ℕ) (k : ℕ) → HexDigits 16 ds → k < length ds → digit_value (get_or ds k 0) < 16
-hex_at [] k h l = absurd (omega arith)
-hex_at (c ∷ cs) zero h l = h.0
-hex_at (c ∷ cs) (suc k) h l = hex_at cs k h.1 (omega arith)
+pub hex_true : (c : ℕ) → digit_value c < 16 → is_ascii_hexdigit c ≡ true
+hex_true c h = grind (arith, nat_tests)
+
+pub hex_from_true : (c : ℕ) → is_ascii_hexdigit c ≡ true → digit_value c < 16
+hex_from_true c e = grind (arith, nat_tests)
 
 -- digits pass the test of digits
 pub passes_from_digits : (ds : List ℕ) → HexDigits 16 ds → Passes is_ascii_hexdigit ds
-passes_from_digits ds h k l = let v = hex_at ds k h l in grind (arith, nat_tests)
+passes_from_digits [] h = tt
+passes_from_digits (c ∷ cs) h = (hex_true c h.0, passes_from_digits cs h.1)
 
 -- and what passes it are digits
 pub digits_from_passes : (ds : List ℕ) → Passes is_ascii_hexdigit ds → HexDigits 16 ds
 digits_from_passes [] h = tt
-digits_from_passes (c ∷ cs) h = (let e = h 0 (omega arith) in grind (arith, nat_tests), digits_from_passes cs (λ k l. h (suc k) (omega arith)))
+digits_from_passes (c ∷ cs) h = (hex_from_true c h.0, digits_from_passes cs h.1)
+
+-- each byte of digits is a digit
+pub hex_at : (ds : List ℕ) (k : ℕ) → HexDigits 16 ds → k < length ds → digit_value (get_or ds k 0) < 16
+hex_at ds k h l = hex_from_true (get_or ds k 0) (All-get_or (λ c. is_ascii_hexdigit c ≡ true) ds k 0 l (passes_from_digits ds h))
 
 -- the digits that begin a text are digits
 pub hexes_front : (xs : List ℕ) → HexDigits 16 (take (hexes xs) xs)
 hexes_front xs = digits_from_passes (take (hexes xs) xs) (passes_front is_ascii_hexdigit xs)
+
+pub no_hex : (stop : ℕ) (rest : List ℕ) → is_ascii_hexdigit stop ≡ false → hexes (stop ∷ rest) ≡ 0
+no_hex stop rest e = rw e
 
 -- what few digits write
 
@@ -40,6 +49,12 @@ pub few_small : (k : ℕ) (ds : List ℕ) → HexDigits 16 ds → length ds ≤ 
 few_small k ds h few =
     let top : 16 ^ length ds ≤ 16 ^ k = pow-le-pow_right (omega arith) few in
     omega (arith, digits_value-lt 16 ds h)
+
+-- also as far as they are read
+pub front_small : (ds : List ℕ) (i : ℕ) → HexDigits 16 ds → length ds ≤ 4 → digits_value 16 (take i ds) < 65536
+front_small ds i h few =
+    let d = digits_from_passes (take i ds) (All-take (λ c. is_ascii_hexdigit c ≡ true) i ds (passes_from_digits ds h)) in
+    omega (arith, few_small 4 (take i ds) d (simp length-take (omega arith)))
 
 pub group_small : (x : List ℕ) (g : ℕ) → Group x g → g < 65536
 group_small x g h = omega (arith, h.number, few_small 4 x h.digits.1 h.few)
@@ -57,6 +72,19 @@ pub hex_group : (g : ℕ) → g < 65536 → Group (hex g) g
 hex_group g h =
     let r = digits_is_IsNumeral 16 false (omega arith) (omega arith) g (omega arith) in
     record { digits = r.0; few = hex_few 3 g (omega arith) (omega arith); number = sym r.1 }
+
+module _ (g : ℕ) (h : g < 65536) where
+  pub hex_short : length (hex g) ≤ 4
+  hex_short = (hex_group g h).few
+
+  pub hex_some : 0 < length (hex g)
+  hex_some = (hex_group g h).digits.0
+
+  pub hex_passes : Passes is_ascii_hexdigit (hex g)
+  hex_passes = passes_from_digits (hex g) (hex_group g h).digits.1
+
+  pub hex_first : is_ascii_hexdigit (get_or (hex g) 0 0) ≡ true
+  hex_first = All-get_or (λ c. is_ascii_hexdigit c ≡ true) (hex g) 0 0 hex_some hex_passes
 
 -- a group and then what begins with no digit
 module _ (x : List ℕ) (g : ℕ) (h : Group x g) (rest : List ℕ) (none : hexes rest ≡ 0) where
