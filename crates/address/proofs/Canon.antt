@@ -1,6 +1,6 @@
 -- The canonical text of an address: it is a text of that address, and it is short.
 use Rattle.std.proofs.Common.{◌≡◌, ℕ, ◌+◌, ◌-◌, ◌*◌, ◌<◌, ◌≤◌, eqb, List, [], ◌∷◌, ◌++◌, length, get_or, take, drop, replicate, sym, refl, ap, ◌∙◌, subst, inl, inr, arith}
-use Rattle.std.proofs.lemmas.List.{append-nil, append_assoc, length-append, length-take, length-drop, drop-drop, take_more, take_rest, take-append-drop, get_or_past}
+use Rattle.std.proofs.lemmas.List.{append-nil, append_assoc, length-append, length-take, length-take-le, length-drop, length-replicate, nil_from_length, drop-drop, take_more, take_rest, take-append-drop, get_or_past}
 use Rattle.std.specs.List.{All}
 use Rattle.std.proofs.lemmas.List.Elements.{All-nil, All-cons, All-head, All-tail, All-append, All-replicate, All-take, All-drop, All-get_or, All-from_get_or}
 use Rattle.std.proofs.lemmas.List.Sums.{prefix_len-le-length}
@@ -29,6 +29,11 @@ fits_address text gs (inl f) = fits_joined text gs f.spelt
 fits_address text gs (inr s) =
     rw s.groups
     (All-append Fits s.before _ (fits_joined s.left s.before s.first) (All-append Fits _ s.after (All-replicate Fits _ 0 (omega arith)) (fits_joined s.right s.after s.last)))
+
+pub address_eight : (text gs : List ℕ) → Address text gs → length gs ≡ 8
+address_eight text gs (inl f) = f.eight
+address_eight text gs (inr s) =
+    ap length s.groups ∙ simp (length-append, length-replicate) (omega (arith, s.room))
 
 -- and so has what is read past the end, which is 0
 pub address_below : (text gs : List ℕ) → Address text gs → (k : ℕ) → get_or gs k 0 < 65536
@@ -61,9 +66,29 @@ behind_push : (gs : List ℕ) (g : ℕ) → behind (gs ++ (g ∷ [])) ≡ behind
 behind_push [] g = ap (λ l. 58 ∷ l) (append-nil (hex g))
 behind_push (f ∷ gs) g = ap (λ l. 58 ∷ l) (ap (λ l. hex f ++ l) (behind_push gs g) ∙ sym (append_assoc (hex f) (behind gs) (58 ∷ hex g)))
 
-pub colons_first : (gs : List ℕ) → 1 ≤ length gs → colons gs ≡ hex (get_or gs 0 0) ++ behind (take (length gs - 1) (drop 1 gs))
-colons_first [] some = absurd (omega arith)
-colons_first (g ∷ gs) some = ap (λ l. hex g ++ behind l) (sym (take_rest (g ∷ gs) 1))
+colons_push : (gs : List ℕ) (g : ℕ) → 0 < length gs → colons (gs ++ (g ∷ [])) ≡ (colons gs ++ (58 ∷ [])) ++ hex g
+colons_push [] g some = absurd (omega arith)
+colons_push (f ∷ gs) g some =
+    let a = behind_push gs g in
+    let b = append_assoc (hex f) (behind gs) (58 ∷ hex g) in
+    let d = append_assoc (hex f ++ behind gs) (58 ∷ []) (hex g) in
+    cc
+
+module _ (gs : List ℕ) (i : ℕ) (here : i < length gs) where
+  pub colons_first : i ≡ 0 → colons (take (i + 1) gs) ≡ colons (take i gs) ++ hex (get_or gs i 0)
+  colons_first e =
+      let n : take i gs ≡ [] = nil_from_length (take i gs) (length-take-le i gs (omega arith) ∙ e) in
+      let t = take_more gs i 0 here in
+      let a = append-nil (hex (get_or gs i 0)) in
+      ap colons (t ∙ ap (λ l. l ++ (get_or gs i 0 ∷ [])) n) ∙ a ∙ ap (λ l. colons l ++ hex (get_or gs i 0)) (sym n)
+
+  pub colons_later : 0 < i → colons (take (i + 1) gs) ≡ (colons (take i gs) ++ (58 ∷ [])) ++ hex (get_or gs i 0)
+  colons_later some = ap colons (take_more gs i 0 here) ∙ colons_push (take i gs) (get_or gs i 0) (omega (arith, length-take-le i gs (omega arith)))
+
+-- the first group, and those behind it
+pub colons_head : (gs : List ℕ) → 1 ≤ length gs → colons gs ≡ hex (get_or gs 0 0) ++ behind (take (length gs - 1) (drop 1 gs))
+colons_head [] some = absurd (omega arith)
+colons_head (g ∷ gs) some = ap (λ l. hex g ++ behind l) (sym (take_rest (g ∷ gs) 1))
 
 pub behind_more : (gs : List ℕ) (i : ℕ) → i < length gs → behind (take (i + 1) gs) ≡ behind (take i gs) ++ (58 ∷ hex (get_or gs i 0))
 behind_more gs i here = ap behind (take_more gs i 0 here) ∙ behind_push (take i gs) (get_or gs i 0)

@@ -1,5 +1,5 @@
 -- Four octets in text: they write one address, and they are short.
-use Rattle.std.proofs.Common.{◌≡◌, ℕ, ◌/◌, ◌%◌, ◌^◌, ◌<◌, ◌≤◌, List, ◌∷◌, ◌++◌, length, drop, decimal, sym, refl, ap, ◌∙◌, arith}
+use Rattle.std.proofs.Common.{◌≡◌, ℕ, ◌+◌, ◌*◌, ◌/◌, ◌%◌, ◌^◌, ◌<◌, ◌≤◌, List, ◌∷◌, ◌++◌, length, drop, decimal, sym, refl, ap, ◌∙◌, arith}
 use Rattle.std.proofs.lemmas.Fmt.{decimal_injective}
 use Rattle.std.proofs.lemmas.List.{length-append}
 use Rattle.numeral.proofs.Numerals.{decimal_short, no_digit, same_part}
@@ -33,6 +33,15 @@ module _ (a b c d : ℕ) (small : (a ≤ 255) × (b ≤ 255) × (c ≤ 255) × (
       let k = decimal_short c (omega arith) in
       let l = decimal_short d (omega arith) in
       simp length-append (omega arith)
+
+  pub octets_dotted : Dotted octets (((a * 256 + b) * 256 + c) * 256 + d)
+  octets_dotted =
+      let n = ((a * 256 + b) * 256 + c) * 256 + d in
+      let i : a ≡ n / 16777216 = omega arith in
+      let j : b ≡ n / 65536 % 256 = omega arith in
+      let k : c ≡ n / 256 % 256 = omega arith in
+      let l : d ≡ n % 256 = omega arith in
+      record { below = omega arith; spelt = cc }
 
 module _ (n : ℕ) (small : n < 2 ^ 32) where
   pub quad_dotted : Dotted (quad n) n

@@ -22,17 +22,19 @@ module _ (text gs rest : List ℕ) (head : Took 8 text gs rest) where
       let o = head_one text gs rest hs head s in
       cut s.right (omega (arith, ap length o.0, s.room)) o.1
 
+  -- something is left behind the tail, which could have had all the groups that the head leaves to it
+  pub tail_left : (most : ℕ) (ts left : List ℕ) → length gs < 8 → 7 ≤ most + length gs → Took most (drop 2 rest) ts left → (left ≡ [] → ⊥) → (hs : List ℕ) → Address text hs → ⊥
+  tail_left most ts left few room tail some hs (inl f) =
+      let o = all_one 8 text gs rest hs head f.spelt (omega (arith, f.eight)) in
+      omega (arith, ap length o.0, f.eight)
+  tail_left most ts left few room tail some hs (inr s) =
+      let o = head_one text gs rest hs head s in
+      let j : Joined (drop 2 rest) s.after = subst (λ r. Joined (drop 2 r) s.after) (sym o.1) s.last in
+      some (all_one most (drop 2 rest) ts left s.after tail j (omega (arith, ap length o.0, s.room))).1
+
   module _ (x : List ℕ) (cut : rest ≡ 58 ∷ (58 ∷ x)) where
-    -- something is left behind the tail, which could have had all the groups that the head leaves to it
     pub tail_refused : (most : ℕ) (ts left : List ℕ) → length gs < 8 → 7 ≤ most + length gs → Took most x ts left → (left ≡ [] → ⊥) → (hs : List ℕ) → Address text hs → ⊥
-    tail_refused most ts left few room tail some hs (inl f) =
-        let o = all_one 8 text gs rest hs head f.spelt (omega (arith, f.eight)) in
-        omega (arith, ap length o.0, f.eight)
-    tail_refused most ts left few room tail some hs (inr s) =
-        let o = head_one text gs rest hs head s in
-        let r : x ≡ s.right = ap (drop 2) (sym cut ∙ o.1) in
-        let j : Joined x s.after = subst (λ r. Joined r s.after) (sym r) s.last in
-        some (all_one most x ts left s.after tail j (omega (arith, ap length o.0, s.room))).1
+    tail_refused most ts left few room tail = tail_left most ts left few room (subst (λ t. Took most t ts left) (sym (ap (drop 2) cut)) tail)
 
     -- head, two colons and tail are the text, and leave out a group or more
     pub shortened : (most : ℕ) (ts left : List ℕ) → most + length gs < 8 → Took most x ts left → left ≡ [] → Address text (gs ++ (replicate (8 - (length gs + length ts)) 0 ++ ts))

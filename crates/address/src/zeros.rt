@@ -2,7 +2,12 @@
 ghost use Rattle.std.specs.Prelude.{◌≡◌, ℕ, ◌+◌, ◌<◌, ◌≤◌, drop, MatchOption};
 ghost use Rattle.address.specs.Canonical.{run, zeros, TwoZeros};
 
-use std::ops::Range;
+// Neighbouring groups, from `start` up to `end`.
+#[derive(Clone, Copy, PartialEq, Eq, Debug)]
+pub struct Run {
+    pub start: usize,
+    pub end: usize,
+}
 
 // Where the leftmost two zero groups begin.
 fn leftmost_pair(groups: &[u16; 8]) -> Option<usize>
@@ -21,12 +26,13 @@ fn leading_zeros(groups: &[u16]) -> usize
 }
 
 // The leftmost run of two or more zero groups, where there is one.
-pub fn leftmost_run(groups: &[u16; 8]) -> Option<Range<usize>>
+pub fn leftmost_run(groups: &[u16; 8]) -> Option<Run>
     ensures { MatchOption result
         (run groups.now ≡ 8)
         (λ r. (r.start ≡ run groups.now) × (r.start < 8)
         × (r.end ≡ r.start + zeros (drop r.start groups.now)) × (r.end ≤ 8)) }
 {
     let start = leftmost_pair(groups)?;
-    Some(start..start + leading_zeros(&groups[start..]))
+    let end = start + leading_zeros(&groups[start..]);
+    Some(Run { start, end })
 }

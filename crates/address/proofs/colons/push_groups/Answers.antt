@@ -4,7 +4,7 @@ use Rattle.std.proofs.lemmas.List.{append_assoc, take_all, nil_from_length}
 use Rattle.numeral.specs.Groups.{hex}
 use Rattle.numeral.proofs.Texts.{nothing, then}
 use Rattle.address.specs.Canonical.{behind}
-use Rattle.address.proofs.Canon.{colons_first, behind_more}
+use Rattle.address.proofs.Canon.{colons_head, behind_more}
 use Rattle.address.proofs.colons.push_groups.Goals as goal
 
 pub returns-in_default : goal.returns-in_default
@@ -28,4 +28,4 @@ returns c =
     let gs = c.args.groups.now in
     let rest = take (length gs - 1) (drop 1 gs) in
     let all = ap behind (take_all l.g-index rest c.loop-g-test.false) in
-    then 43 c.args.draft.now (hex (get_or gs 0 0)) (behind (take l.g-index rest)) c.hex.ensures l.invariant ∙ ap (λ t. take 43 (c.args.draft.now ++ t)) (ap (λ t. hex (get_or gs 0 0) ++ t) all ∙ sym (colons_first gs c.in-len1-up.len_at_least))
+    then 43 c.args.draft.now (hex (get_or gs 0 0)) (behind (take l.g-index rest)) c.hex.ensures l.invariant ∙ ap (λ t. take 43 (c.args.draft.now ++ t)) (ap (λ t. hex (get_or gs 0 0) ++ t) all ∙ sym (colons_head gs c.in-len1-up.len_at_least))

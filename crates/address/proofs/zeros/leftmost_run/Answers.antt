@@ -15,8 +15,8 @@ counted gs i n eight here e =
 pub returns-in_err-start : goal.returns-in_err-start
 returns-in_err-start c = rw c.from_residual.ensures (let e = run_nowhere c.args.groups.now (λ k l. c.in_err-start.ensures k (omega arith)) in omega arith)
 
-pub overflow_add-result : goal.overflow_add-result
-overflow_add-result c = let h = c.in_ok-start.ensures in omega (arith, counted c.args.groups.now c.in_ok-start.start c.leading_zeros.result (omega arith) (omega arith) c.leading_zeros.ensures)
+pub overflow_add-end : goal.overflow_add-end
+overflow_add-end c = let h = c.in_ok-start.ensures in omega (arith, counted c.args.groups.now c.in_ok-start.start c.leading_zeros.result (omega arith) (omega arith) c.leading_zeros.ensures)
 
 pub returns : goal.returns
 returns c =
