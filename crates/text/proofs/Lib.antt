@@ -1,2 +1,4 @@
 pub mod Slashes
+pub mod Memory
 pub mod Spelling
+pub mod Rewrites

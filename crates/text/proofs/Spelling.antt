@@ -8,7 +8,7 @@ use Rattle.text.specs.Texts.{PrefixText}
 use Rattle.text.proofs.Slashes.{not_lacking, cut_one}
 
 -- digits have no slash among them
-decimal_plain : (l : ℕ) → l ≤ 65535 → LacksByte 47 (decimal l)
+pub decimal_plain : (l : ℕ) → l ≤ 65535 → LacksByte 47 (decimal l)
 decimal_plain l small =
     not_in_digits {P = AllDigits 10} {v = digits_value 10} (record { to = λ _ d. d; from = λ _ d. d; same = λ _ _. refl }) (decimal l) 47 (decimal_is_IsNumeral l (omega arith)).0.1 (λ r. omega arith)
 
