@@ -6,7 +6,7 @@ use Rattle.std.proofs.lemmas.List.{append-nil, length-append, nil_from_length}
 use Rattle.std.proofs.lemmas.Bool.Decides.{Decides-eqb}
 use Rattle.std.proofs.lemmas.Slice.Eq.{strip_suffix_is}
 use Rattle.prefixes.specs.Printing.{Lines, none}
-use Rattle.prefixes.proofs.Feeds.{line_more}
+use Rattle.prefixes.proofs.Feeds.{piece_more}
 use Rattle.prefixes.proofs.reports.Goals as goal
 
 pub loop-number-preserved : goal.loop-number-preserved
@@ -21,7 +21,7 @@ loop-number-preserved c =
     let stripped = strip_suffix_is Decides-eqb piece.now (10 ∷ []) c.strip_suffix.result c.strip_suffix.ensures.cases in (
       omega (arith, c.loop-number.invariant.0, steps.0.0, steps.0.1, ap length steps.1.0, length-append piece.now behind, steps.1.1.1, steps.1.2),
       λ others l.
-          let here = line_more was.b.rest.now behind piece steps.1.1.0 c.in-Some.number c.strip_suffix.result r.0 others steps.1.0 steps.1.1.1 first steps.1.2 stripped (rw c.unwrap_or-line.ensures at r.1) (rw steps.0.1 at l) in
+          let here = piece_more was.b.rest.now behind piece steps.1.1.0 c.in-Some.number c.strip_suffix.result r.0 others steps.1.0 steps.1.1.1 first steps.1.2 stripped (rw c.unwrap_or-line.ensures at r.1) (rw steps.0.1 at l) in
           rw (r.2, append_assoc) (c.loop-number.invariant.1 (r.0 ++ others) (rw steps.0.0 at here)),
     )
 
