@@ -1,5 +1,6 @@
 -- `leading_number` takes the digits that begin the text, and refuses where they write no number.
 use Rattle.std.proofs.Common.{◌≡◌, Some, None, arith}
+use Rattle.std.proofs.lemmas.List.{take_all}
 use Rattle.std.proofs.lemmas.Option.{MatchOption-at_some, MatchOption-at_none}
 use Rattle.std.proofs.lemmas.Result.{err_from_is_err_and}
 use Rattle.fault.specs.Causes.{alone}
@@ -24,4 +25,4 @@ returns c =
     let some : c.value.result ≡ Some c.in_ok-value.value = grind arith in
     let h = MatchOption-at_some _ _ c.in_ok-value.value some c.value.ensures in
     let v = rw (c.split_at.ensures.front, c.count_digits.ensures.count) at h in
-    begins_front c.args.limit c.args.text.now _ c.in_ok-value.value v.0 v.1 (grind arith)
+    begins_front c.args.limit c.args.text.now _ c.in_ok-value.value v.0 v.1 (grind (arith, take_all))
