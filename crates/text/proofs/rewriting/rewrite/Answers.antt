@@ -1,14 +1,9 @@
 -- What was read is written: a prefix has no cause of refusal.
-use Rattle.std.proofs.Common.{ℕ, List, Ok, Err, Result, refl, inr, rules}
-use Rattle.fault.specs.declared.Fault.{Fault}
-use Rattle.numeral.specs.Drafts.{Wrote}
+use Rattle.std.proofs.Common.{refl, rules}
 use Rattle.prefix.proofs.Making.{refusal_none}
-use Rattle.text.specs.Rewriting.{Rewritten, Rewrote, as_prefix, as_address}
+use Rattle.text.specs.Rewriting.{as_prefix, as_address}
+use Rattle.text.proofs.Rewrites.{rewrote}
 use Rattle.text.proofs.rewriting.rewrite.Goals as goal
-
-rewrote : (spelt : List ℕ → ℕ → Type 0) (written : ℕ → List ℕ) (w : ℕ) (text out old new : List ℕ) (r : Result ℕ Fault) → Rewritten spelt written w text out → Wrote out old new r → Rewrote spelt written w text old new r
-rewrote spelt written w text out old new (Ok k) h wrote = (out, h, wrote)
-rewrote spelt written w text out old new (Err f) h wrote = inr (out, h, wrote)
 
 pub returns-in_ok-read_prefix-in-Some : goal.returns-in_ok-read_prefix-in-Some
 returns-in_ok-read_prefix-in-Some g c =
