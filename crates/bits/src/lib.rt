@@ -14,15 +14,13 @@ pub fn bit_at(words: &[u64], i: usize) -> bool
     words.get(i / 64).is_some_and(|w| (w >> (i % 64)) % 2 == 1)
 }
 
-// A mask of the bits of word w that lie in a run, which reaches into that word.
-fn part(w: usize, start: usize, end: usize) -> u64
-    requires from { start / 64 ≤ w }
+// A mask of the bits of word w that come before the end of a run, which reaches into that word.
+fn part(w: usize, end: usize) -> u64
     requires to { 64 * w < end }
-    ensures { (j : ℕ) → j < 64 → on result j ≡ within start end (64 * w + j) }
+    ensures { (j : ℕ) → j < 64 → on result j ≡ nat_lt (64 * w + j) end }
 {
-    let low = start.saturating_sub(64 * w);
-    let high = (end - 64 * w).min(64);
-    (u64::MAX << low) & (u64::MAX >> (64 - high))
+    let over = (64 * w + 63).saturating_sub(end - 1);
+    u64::MAX >> over
 }
 
 // The first bit of a run that is `SET`.
@@ -32,12 +30,16 @@ pub fn first<const SET: bool>(words: &[u64], run: Range<usize>) -> Option<usize>
         (λ i. (run.start ≤ i) × (i < run.end) × (bit words.now i ≡ SET) × ((k : ℕ) → run.start ≤ k → k < i → bit words.now k ≡ not SET)) }
 {
     let Range { start, end } = run;
+    let mut from = u64::MAX << (start % 64);
     for w in start / 64..end.div_ceil(64).min(words.len()) {
         let word = if SET { words[w] } else { !words[w] };
-        let hits = word & part(w, start, end);
+        let hits = word & from;
         if hits != 0 {
-            return Some(64 * w + hits.trailing_zeros() as usize);
+            // The words are read upward, so where this one is past the run, none is in it.
+            let i = 64 * w + hits.trailing_zeros() as usize;
+            return (i < end).then_some(i);
         }
+        from = u64::MAX;
     }
     // Behind the words every bit is clear.
     let behind = words.len().saturating_mul(64).max(start);
@@ -50,13 +52,15 @@ pub fn fill_run<const SET: bool>(words: &mut [u64], run: Range<usize>)
     ensures beyond { (k : ℕ) → run.end ≤ 64 * k → slice_index words.new k ≡ slice_index words.old k }
 {
     let Range { start, end } = run;
+    let mut from = u64::MAX << (start % 64);
     for w in start / 64..end.div_ceil(64).min(words.len()) {
-        let bits = part(w, start, end);
+        let bits = from & part(w, end);
         words[w] = if SET {
             words[w] | bits
         } else {
             words[w] & !bits
         };
+        from = u64::MAX;
     }
 }
 

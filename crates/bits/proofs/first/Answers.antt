@@ -1,32 +1,43 @@
-use Rattle.std.proofs.Common.{◌≡◌, ℕ, ◌*◌, ◌%◌, ◌<◌, cond, not, eqb, get_or, ⊎_elim, arith}
+use Rattle.std.proofs.Common.{◌≡◌, ℕ, ◌*◌, ◌%◌, ◌<◌, cond, not, eqb, get_or, ◌∙◌, ⊎_elim, arith}
 use Rattle.std.proofs.lemmas.Bool.{cases_lt}
 use Rattle.std.proofs.lemmas.Bool.Decides.{nat_tests}
-use Rattle.std.proofs.lemmas.Nat.Bits.{bit_at-zero}
+use Rattle.std.proofs.lemmas.Nat.Bits.{bit_at-zero, bit_at_ones}
 use Rattle.bits.specs.Bit.{on}
-use Rattle.bits.proofs.Digits.{on-not}
-use Rattle.bits.proofs.Runs.{missed, met}
-use Rattle.bits.proofs.first.Given.{Over}
+use Rattle.bits.proofs.Digits.{on-not, on_from}
+use Rattle.bits.proofs.Runs.{missed, met, answer}
 use Rattle.bits.proofs.first.Goals as goal
-use Rattle.bits.proofs.first.Goals.{After-part, then-this-ne0, else-this-ne0}
+use Rattle.bits.proofs.first.Goals.{then-this-ne0, else-this-ne0}
 
-read : (g : Over) (c : After-part g) → (j : ℕ) → j < 64 → on c.if-this-ne0.word j ≡ cond (not (eqb g.row.SET 0)) (on (get_or c.args.words.now c.loop-w.w 0) j) (not (on (get_or c.args.words.now c.loop-w.w 0) j))
-read g c j lt =
-    let y = get_or c.args.words.now c.loop-w.w 0 in
-    elim c.if-this-ne0.branch [
-      | then-this-ne0 b ↦ grind (arith, nat_tests)
-      | else-this-ne0 b ↦ grind (arith, nat_tests, on-not y j (omega (arith, c.type_inv.words c.loop-w.w)) lt)
-    ]
+pub loop-w-init : goal.loop-w-init
+loop-w-init g c = record {
+  before = λ k le more. absurd (omega arith);
+  mask = λ j lt. on_from (c.args.run.start % 64) j (omega arith) lt ∙ grind (arith, nat_tests);
+}
 
 pub returns-then-hits-ne0 : goal.returns-then-hits-ne0
 returns-then-hits-ne0 g c =
-    let w = c.loop-w.w in
-    let m = met c.args.words.now c.args.run.start c.args.run.end w c.if-this-ne0.word c.part.result (not (eqb g.row.SET 0)) (read g (goal.at.returns-then-hits-ne0 g c).After-part) c.part.ensures (omega arith) c.if-hits-ne0.true in
-    (m.from, omega (arith, m.to), m.is, λ k le lt. ⊎_elim (λ b. c.loop-w.invariant k le (omega (arith, m.to)) b) (λ b. m.before k le lt b) (cases_lt k (64 * w)))
+    let y = get_or c.args.words.now c.loop-w.w 0 in
+    let is : (j : ℕ) → j < 64 → on c.if-this-ne0.word j ≡ cond (not (eqb g.row.SET 0)) (on y j) (not (on y j)) = λ j lt. elim c.if-this-ne0.branch [
+      | then-this-ne0 b ↦ grind (arith, nat_tests)
+      | else-this-ne0 b ↦ grind (arith, nat_tests, on-not y j (omega (arith, c.type_inv.words c.loop-w.w)) lt)
+    ] in
+    let m = met c.args.words.now c.args.run.start c.loop-w.w c.if-this-ne0.word c.loop-w.from (not (eqb g.row.SET 0)) is c.loop-w.invariant.mask (omega arith) c.if-hits-ne0.true in
+    answer c.args.words.now c.args.run.start c.args.run.end _ (not (eqb g.row.SET 0)) m.from m.is
+    (λ k le lt. ⊎_elim (λ b. c.loop-w.invariant.before k le b) (λ b. m.before k le lt b) (cases_lt k (64 * c.loop-w.w)))
+    c.then_some.result c.then_some.ensures
 
 pub loop-w-preserved : goal.loop-w-preserved
-loop-w-preserved g c = λ k le lt more.
-    let w = c.loop-w.w in
-    ⊎_elim
-    (λ b. c.loop-w.invariant k le lt b)
-    (λ b. missed c.args.words.now c.args.run.start c.args.run.end w c.if-this-ne0.word c.part.result (not (eqb g.row.SET 0)) (read g (goal.at.loop-w-preserved g c).After-part) c.part.ensures k (omega arith) le lt (grind (arith, bit_at-zero (k % 64))))
-    (cases_lt k (64 * w))
+loop-w-preserved g c =
+    let y = get_or c.args.words.now c.loop-w.w 0 in
+    let is : (j : ℕ) → j < 64 → on c.if-this-ne0.word j ≡ cond (not (eqb g.row.SET 0)) (on y j) (not (on y j)) = λ j lt. elim c.if-this-ne0.branch [
+      | then-this-ne0 b ↦ grind (arith, nat_tests)
+      | else-this-ne0 b ↦ grind (arith, nat_tests, on-not y j (omega (arith, c.type_inv.words c.loop-w.w)) lt)
+    ] in
+    record {
+      before = λ k le more.
+          ⊎_elim
+          (λ b. c.loop-w.invariant.before k le b)
+          (λ b. missed c.args.words.now c.args.run.start c.loop-w.w c.if-this-ne0.word c.loop-w.from (not (eqb g.row.SET 0)) is c.loop-w.invariant.mask k (omega arith) le (grind (arith, bit_at-zero (k % 64))))
+          (cases_lt k (64 * c.loop-w.w));
+      mask = λ j lt. grind (arith, nat_tests, bit_at_ones 64 j);
+    }
