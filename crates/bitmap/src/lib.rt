@@ -8,7 +8,7 @@ ghost use Rattle.bitmap.specs.Whole.{map_sound};
 
 use bits::{bit_at, fill_run, first, wipe};
 use space::Space;
-use space::places::places_at;
+use space::places::{depth_of, is_place, places_at};
 use std::ops::Range;
 
 // How many words a share has.
@@ -87,16 +87,17 @@ impl<'a> Bitmap<'a> {
         ensures { MatchOption result (has self.now.depth n ≡ false)
             (λ r. (has self.now.depth n ≡ true) × Spans self.now.depth n r.start r.end) }
     {
-        if self.depth == 0 {
+        if self.depth == 0 || !is_place(self.depth, n) {
             return None;
         }
-        let places = places_at(n, self.depth)?;
-        let top = 1 << self.depth;
-        Some(places.start - top..places.end - top)
+        let size = 1 << (self.depth - depth_of(n));
+        let start = n * size - (1 << self.depth);
+        Some(start..start + size)
     }
 
     // Whether n is out: its units are a start, all marked, with no further start, and behind them stands no mark
     // without a start.
+    #[inline(always)]
     fn is_out(&self, n: usize) -> bool
         ensures { result ≡ (map_meaning self.now.depth self.now.words.now).out n }
     {
@@ -158,6 +159,7 @@ impl<'a> Space for Bitmap<'a> {
         first::<true>(self.words, start..end).is_none()
     }
 
+    #[inline(always)]
     fn out(&self, n: usize) -> bool {
         self.is_out(n)
     }
