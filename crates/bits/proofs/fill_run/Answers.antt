@@ -27,7 +27,7 @@ loop-w-preserved g c =
     let y = get_or ws w 0 in
     let is : (j : ℕ) → j < 64 → on v j ≡ cond (on p j) (not (eqb g.row.SET 0)) (on y j) = λ j lt. elim c.if-this-ne0.branch [
       | then-this-ne0 b ↦ let q : v ≡ bit_or y p = omega arith in grind (arith, nat_tests, on_or y p j)
-      | else-this-ne0 b ↦ let q : v ≡ bit_and y (2 ^ 64 - 1 - p) = omega arith in grind (arith, nat_tests, on_and y (2 ^ 64 - 1 - p) j, on-not p j fit lt)
+      | else-this-ne0 b ↦ let q : v ≡ bit_and y (2 ^ 64 - 1 - p) = omega arith in grind (arith, nat_tests, on_and y (2 ^ 64 - 1 - p) j, on-not 64 p j fit lt)
     ] in
     let here : (j : ℕ) → j < 64 → on p j ≡ within c.args.run.start c.args.run.end (64 * w + j) = λ j lt. on_and _ _ j ∙ ap₂ (λ u v. u && v) (c.loop-w.invariant.mask j lt) (c.part.ensures j lt) in
     record {

@@ -19,7 +19,7 @@ returns-then-hits-ne0 g c =
     let y = get_or c.args.words.now c.loop-w.w 0 in
     let is : (j : ℕ) → j < 64 → on c.if-this-ne0.word j ≡ cond (not (eqb g.row.SET 0)) (on y j) (not (on y j)) = λ j lt. elim c.if-this-ne0.branch [
       | then-this-ne0 b ↦ grind (arith, nat_tests)
-      | else-this-ne0 b ↦ grind (arith, nat_tests, on-not y j (omega (arith, c.type_inv.words c.loop-w.w)) lt)
+      | else-this-ne0 b ↦ grind (arith, nat_tests, on-not 64 y j (omega (arith, c.type_inv.words c.loop-w.w)) lt)
     ] in
     let m = met c.args.words.now c.args.run.start c.loop-w.w c.if-this-ne0.word c.loop-w.from (not (eqb g.row.SET 0)) is c.loop-w.invariant.mask (omega arith) c.if-hits-ne0.true in
     answer c.args.words.now c.args.run.start c.args.run.end _ (not (eqb g.row.SET 0)) m.from m.is
@@ -31,7 +31,7 @@ loop-w-preserved g c =
     let y = get_or c.args.words.now c.loop-w.w 0 in
     let is : (j : ℕ) → j < 64 → on c.if-this-ne0.word j ≡ cond (not (eqb g.row.SET 0)) (on y j) (not (on y j)) = λ j lt. elim c.if-this-ne0.branch [
       | then-this-ne0 b ↦ grind (arith, nat_tests)
-      | else-this-ne0 b ↦ grind (arith, nat_tests, on-not y j (omega (arith, c.type_inv.words c.loop-w.w)) lt)
+      | else-this-ne0 b ↦ grind (arith, nat_tests, on-not 64 y j (omega (arith, c.type_inv.words c.loop-w.w)) lt)
     ] in
     record {
       before = λ k le more.
