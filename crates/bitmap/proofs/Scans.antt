@@ -1,6 +1,6 @@
 -- What a scan of the words says of a place.
-use Rattle.std.proofs.Common.{◌≡◌, ℕ, ◌+◌, ◌-◌, ◌*◌, ◌^◌, ◌<◌, ◌≤◌, true, false, not, ◌&&◌, List, Option, None, Some, MatchOption, is_some, Bool, refl, sym, ap, ◌∙◌, ⊎_elim, arith}
-use Rattle.std.proofs.lemmas.Bool.{cases_Bool, and_parts, and_from, both_ways, lt-ltb, false_from_ne_true}
+use Rattle.std.proofs.Common.{◌≡◌, ℕ, ◌+◌, ◌-◌, ◌*◌, ◌^◌, ◌<◌, ◌≤◌, true, false, not, ◌&&◌, eqb, List, Option, None, Some, MatchOption, is_some, Bool, refl, sym, ap, ◌∙◌, ⊎_elim, arith}
+use Rattle.std.proofs.lemmas.Bool.{cases_Bool, cases_eq, eq-eqb, ne_eqb, not_from_false, not_from_true, and_parts, and_from, both_ways, lt-ltb, false_from_ne_true}
 use Rattle.std.proofs.lemmas.Bool.Decides.{nat_tests}
 use Rattle.space.specs.Places.{is_place, size, lies}
 use Rattle.space.specs.Meaning.{blocked, is_open, is_busy}
@@ -78,6 +78,14 @@ module _ (d : ℕ) (ws : List ℕ) (n : ℕ) (at : is_place d n ≡ true) where
 
     pub hit_clear : ((u : ℕ) → first d n ≤ u → u < first d n + size d n → bit ws u ≡ false) → blocked (map_meaning d ws) n ≡ false
     hit_clear f = hit_none d (marked d ws) (starts d ws) n at (λ u lo hi. here_marked u hi ∙ f u lo hi)
+
+    pub free_from : (r : ℕ) → r ≤ first d n + size d n → ((u : ℕ) → first d n ≤ u → u < r → bit ws u ≡ false) → (r < first d n + size d n → (first d n ≤ r) × (bit ws r ≡ true))
+        → eqb r (first d n + size d n) ≡ not (blocked (map_meaning d ws) n)
+    free_from r hi before found =
+        ⊎_elim
+        (λ q. eq-eqb r _ q ∙ sym (not_from_false _ (hit_clear (λ u a b. before u a (omega arith)))))
+        (λ ne. let f = found (omega arith) in ne_eqb r _ ne ∙ sym (not_from_true _ (hit_at r f.0 (omega arith) f.1)))
+        (cases_eq r (first d n + size d n))
 
     pub idle_from : ((i : ℕ) → 64 * share d + first d n ≤ i → i < 64 * share d + (first d n + size d n) → bit ws i ≡ false) → is_busy (map_meaning d ws) n ≡ false
     idle_from f = busy_none d (marked d ws) (starts d ws) n at (λ u lo hi. here_starts u hi ∙ f (64 * share d + u) (omega arith) (omega arith))

@@ -34,12 +34,20 @@ module _ (x s i : ℕ) (pos : 0 < s) where
       (cases_lt q i))
       (cases_lt i q)
 
+-- behind the set bit u, the first clear bit z
+pub clear_past : (ws : List ℕ) (u z e : ℕ) → u < e → bit ws u ≡ true → (z < e → (u ≤ z) × (bit ws z ≡ false)) → u < z
+clear_past ws u z e lt set found =
+    ⊎_elim
+    (λ l. let f = found l in ⊎_elim (λ q. absurd (both_ways (bit ws u) (ap (bit ws) q ∙ f.1) set)) (λ ne. omega (arith, f.0)) (cases_eq u z))
+    (λ g. omega arith)
+    (cases_lt z e)
+
 -- behind the set bit u, the first clear bit z, or e where there is none
-pub clear_past : (ws : List ℕ) (u e z : ℕ) (o : Option ℕ) → u < e → bit ws u ≡ true
+pub clear_behind : (ws : List ℕ) (u e z : ℕ) (o : Option ℕ) → u < e → bit ws u ≡ true
     → MatchOption o ((k : ℕ) → u ≤ k → k < e → bit ws k ≡ true) (λ i. (u ≤ i) × (i < e) × (bit ws i ≡ false) × ((k : ℕ) → u ≤ k → k < i → bit ws k ≡ true))
     → z ≡ unwrap_or o e → (u < z) × ((k : ℕ) → u ≤ k → k < z → bit ws k ≡ true)
-clear_past ws u e z None lt set m q = (omega arith, λ k lo hi. m k lo (omega arith))
-clear_past ws u e z (Some i) lt set m q = (
+clear_behind ws u e z None lt set m q = (omega arith, λ k lo hi. m k lo (omega arith))
+clear_behind ws u e z (Some i) lt set m q = (
   ⊎_elim (λ x. absurd (both_ways (bit ws u) (ap (bit ws) x ∙ m.2) set)) (λ ne. omega (arith, m.0)) (cases_eq u i),
   λ k lo hi. m.3 k lo (omega arith),
 )

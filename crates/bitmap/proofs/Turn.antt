@@ -1,5 +1,5 @@
 -- A place is taken or given in the two rows of bits: what else is out stays out.
-use Rattle.std.proofs.Common.{◌≡◌, ℕ, ◌+◌, ◌-◌, ◌<◌, ◌≤◌, Bool, true, false, cond, ◌⊎◌, sym, ap, ◌∙◌, inl, inr, ⊎_elim, arith}
+use Rattle.std.proofs.Common.{◌≡◌, ℕ, ◌+◌, ◌-◌, ◌<◌, ◌≤◌, Bool, true, false, cond, not, ◌&&◌, ◌||◌, refl, ◌⊎◌, sym, ap, ◌∙◌, inl, inr, ⊎_elim, arith}
 use mathlib.Core.Path.{fun_ext}
 use Rattle.std.proofs.lemmas.Bool.{cases_eq, cases_lt, both_ways, false_from_ne_true}
 use Rattle.std.proofs.lemmas.Bool.Decides.{nat_tests}
@@ -106,22 +106,22 @@ module _ (d : ℕ) (cov st cov' st' : ℕ → Bool) (n : ℕ) (out : Bool)
         same_out d cov' st' cov st k o (λ u lo hi. let t = same_bits k none u lo hi in (sym t.0, sym t.1))
         (λ c. let at_n = clear e in let follows = o.is.ends in let x = covs e in let y = sts e in grind (arith, nat_tests))
 
-    taken_out : map_out d cov' st' ≡ adding (map_out d cov st) n
-    taken_out = fun_ext λ k.
+    out_taken : map_out d cov' st' ≡ adding (map_out d cov st) n
+    out_taken = fun_ext λ k.
         ⊎_elim
         (λ e. let o = ap (map_out d cov' st') e ∙ of_out d cov' st' n own in grind (arith, nat_tests))
         (λ ne. let o = same_test (map_out d cov' st' k) (map_out d cov st k) (λ x. of_out d cov st k (was k ne (out_of d cov' st' k x))) (λ x. of_out d cov' st' k (stays k (out_of d cov st k x))) in grind (arith, nat_tests))
         (cases_eq k n)
 
-    taken_kept : Kept d cov' st'
-    taken_kept u c = held_by d cov' st' u
+    kept_taken : Kept d cov' st'
+    kept_taken u c = held_by d cov' st' u
         (⊎_elim
         (λ x. record { who = n; out = own; from = x.0; to = x.1 })
         (λ x. let h = holder d cov st kept u (sym (off_cov u x) ∙ c) in record { who = h.who; out = stays h.who h.out; from = h.from; to = h.to })
         (where_is (first d n) (size d n) u))
 
-    taken_borne : Borne cov' st'
-    taken_borne u s =
+    borne_taken : Borne cov' st'
+    borne_taken u s =
         let c = covs u in
         let t = sts u in
         let b = borne u in
@@ -129,7 +129,7 @@ module _ (d : ℕ) (cov st cov' st' : ℕ → Bool) (n : ℕ) (out : Bool)
         grind (arith, nat_tests)
 
     pub taken : (map_out d cov' st' ≡ adding (map_out d cov st) n) × Kept d cov' st' × Borne cov' st'
-    taken = (taken_out, taken_kept, taken_borne)
+    taken = (out_taken, kept_taken, borne_taken)
 
   -- n is given
   module _ (no : out ≡ false) (kept : Kept d cov st) (borne : Borne cov st) (was_out : Out d cov st n) where
@@ -151,15 +151,15 @@ module _ (d : ℕ) (cov st cov' st' : ℕ → Bool) (n : ℕ) (out : Bool)
         same_out d cov' st' cov st k o (λ u lo hi. let t = same_bits k none u lo hi in (sym t.0, sym t.1))
         (λ c. let before = none (e - 1) in let follows = o.is.ends in let x = covs e in let y = sts e in let start = was_out.is.start in grind (arith, nat_tests))
 
-    given_out : map_out d cov' st' ≡ removing (map_out d cov st) n
-    given_out = fun_ext λ k.
+    out_given : map_out d cov' st' ≡ removing (map_out d cov st) n
+    out_given = fun_ext λ k.
         ⊎_elim
         (λ e. let o = ap (map_out d cov' st') e ∙ false_from_ne_true (map_out d cov' st' n) (λ x. both_ways (st' (first d n)) (at_st ∙ no) (out_of d cov' st' n x).is.start) in grind (arith, nat_tests))
         (λ ne. let o = same_test (map_out d cov' st' k) (map_out d cov st k) (λ x. of_out d cov st k (had k (out_of d cov' st' k x))) (λ x. of_out d cov' st' k (remains k ne (out_of d cov st k x))) in grind (arith, nat_tests))
         (cases_eq k n)
 
-    given_kept : Kept d cov' st'
-    given_kept u c = held_by d cov' st' u
+    kept_given : Kept d cov' st'
+    kept_given u c = held_by d cov' st' u
         (⊎_elim
         (λ x. absurd (both_ways (cov' u) (in_cov u x.0 x.1 ∙ no) c))
         (λ x.
@@ -168,8 +168,8 @@ module _ (d : ℕ) (cov st cov' st' : ℕ → Bool) (n : ℕ) (out : Bool)
         record { who = h.who; out = remains h.who ne h.out; from = h.from; to = h.to })
         (where_is (first d n) (size d n) u))
 
-    given_borne : Borne cov' st'
-    given_borne u s =
+    borne_given : Borne cov' st'
+    borne_given u s =
         let c = covs u in
         let t = sts u in
         let b = borne u in
@@ -177,4 +177,37 @@ module _ (d : ℕ) (cov st cov' st' : ℕ → Bool) (n : ℕ) (out : Bool)
         grind (arith, nat_tests)
 
     pub given : (map_out d cov' st' ≡ removing (map_out d cov st) n) × Kept d cov' st' × Borne cov' st'
-    given = (given_out, given_kept, given_borne)
+    given = (out_given, kept_given, borne_given)
+
+-- n is taken: its units are marked, its first is a start
+module _ (d : ℕ) (cov st cov' st' : ℕ → Bool) (n : ℕ) (live : 0 < d) (at : is_place d n ≡ true) (kept : Kept d cov st) (borne : Borne cov st)
+    (clear : (u : ℕ) → first d n ≤ u → u < first d n + size d n → cov u ≡ false)
+    (covs : (u : ℕ) → cov' u ≡ (within (first d n) (first d n + size d n) u || cov u))
+    (sts : (u : ℕ) → st' u ≡ (within (first d n) (first d n + 1) u || st u)) where
+  takes : (map_out d cov' st' ≡ adding (map_out d cov st) n) × Kept d cov' st' × Borne cov' st'
+  takes = taken d cov st cov' st' n true (λ u. let c = covs u in grind (arith, nat_tests)) (λ u. let s = sts u in grind (arith, nat_tests)) refl live at kept borne clear
+
+  pub taken_out : map_out d cov' st' ≡ adding (map_out d cov st) n
+  taken_out = takes.0
+
+  pub taken_kept : Kept d cov' st'
+  taken_kept = takes.1
+
+  pub taken_borne : Borne cov' st'
+  taken_borne = takes.2
+
+-- n is given: its units and its start are cleared
+module _ (d : ℕ) (cov st cov' st' : ℕ → Bool) (n : ℕ) (kept : Kept d cov st) (borne : Borne cov st) (out : Out d cov st n)
+    (covs : (u : ℕ) → cov' u ≡ (not (within (first d n) (first d n + size d n) u) && cov u))
+    (sts : (u : ℕ) → st' u ≡ (not (within (first d n) (first d n + 1) u) && st u)) where
+  gives : (map_out d cov' st' ≡ removing (map_out d cov st) n) × Kept d cov' st' × Borne cov' st'
+  gives = given d cov st cov' st' n false (λ u. let c = covs u in grind (arith, nat_tests)) (λ u. let s = sts u in grind (arith, nat_tests)) refl kept borne out
+
+  pub given_out : map_out d cov' st' ≡ removing (map_out d cov st) n
+  given_out = gives.0
+
+  pub given_kept : Kept d cov' st'
+  given_kept = gives.1
+
+  pub given_borne : Borne cov' st'
+  given_borne = gives.2

@@ -3,7 +3,7 @@ use Rattle.std.proofs.lemmas.Bool.{cases_lt}
 use Rattle.std.proofs.lemmas.Nat.{one_shl}
 use Rattle.bits.specs.Bit.{bit}
 use Rattle.bitmap.proofs.Scans.{hit_clear}
-use Rattle.bitmap.proofs.Search.{Run, run_at, up_less, up_past, clear_past, skipped}
+use Rattle.bitmap.proofs.Search.{Run, run_at, up_less, up_past, clear_behind, skipped}
 use Rattle.bitmap.proofs.Bitmap.first_free.Goals as goal
 use Rattle.bitmap.proofs.Bitmap.first_free.Goals.{In-loop-n, After-div_ceil-n}
 
@@ -40,7 +40,7 @@ step c =
     let j = c.loop-n.n in
     let r = run (goal.at.loop-n-smaller c).In-loop-n j c.loop-n.invariant.0 c.loop-n-test.true in
     let f = c.in-Some.ensures in
-    let past = clear_past c.args.self.now.words.now c.in-Some.marked top c.unwrap_or-clear.result c.first-in-loop-n.result (omega (arith, f.1, r.from, r.to)) f.2 c.first-in-loop-n.ensures c.unwrap_or-clear.ensures in
+    let past = clear_behind c.args.self.now.words.now c.in-Some.marked top c.unwrap_or-clear.result c.first-in-loop-n.result (omega (arith, f.1, r.from, r.to)) f.2 c.first-in-loop-n.ensures c.unwrap_or-clear.ensures in
     (past.0, past.1, omega (arith, past.0, up_past (top + c.unwrap_or-clear.result) s j r.some (omega (arith, past.0, f.0, r.from))))
 
 pub loop-n-smaller : goal.loop-n-smaller
