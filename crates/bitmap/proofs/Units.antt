@@ -45,6 +45,9 @@ module _ (d : ℕ) (cov st : ℕ → Bool) (n : ℕ) (at : is_place d n ≡ true
       (or_cases (lies k n) (lies n k) l)
 
   -- no unit of n is marked: n overlaps nothing
+  pub clear_free : ((u : ℕ) → first d n ≤ u → u < first d n + size d n → cov u ≡ false) → (k : ℕ) → Out d cov st k → overlap k n ≡ true → ⊥
+  clear_free clear k o l = let t = meets_in k o l in both_ways (cov t.0) (clear t.0 t.1 t.2) (o.is.full t.0 t.3 t.4)
+
   pub hit_none : ((u : ℕ) → first d n ≤ u → u < first d n + size d n → cov u ≡ false) → some_below (2 ^ (d + 1)) (λ k. map_out d cov st k && overlap k n) ≡ false
   hit_none clear =
       none_below (2 ^ (d + 1)) (λ k. map_out d cov st k && overlap k n)
