@@ -58,8 +58,6 @@ module _ (d : ℕ) (ws : List ℕ) (u : ℕ) where
   pub starts_past : 64 * share d ≤ u → starts d ws u ≡ false
   starts_past le = ap (λ t. t && bit ws (64 * share d + u)) (le-ltb u (64 * share d) le)
 
--- a run in one share seen from the other, and from its own
-
 -- the units from a to before e were marked, or cleared
 module _ (d : ℕ) (ws vs : List ℕ) (a e : ℕ) (out : Bool) (le : e ≤ 64 * share d) (less : a < e) (bits : Marks d a e out ws vs) where
   pub marked_now : (u : ℕ) → marked d vs u ≡ cond (within a e u) out (marked d ws u)

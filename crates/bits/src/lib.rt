@@ -37,7 +37,10 @@ pub fn first<const SET: bool>(words: &[u64], run: Range<usize>) -> Option<usize>
         if hits != 0 {
             // The words are read upward, so where this one is past the run, none is in it.
             let i = 64 * w + hits.trailing_zeros() as usize;
-            return (i < end).then_some(i);
+            if i >= end {
+                return None;
+            }
+            return Some(i);
         }
         from = u64::MAX;
     }

@@ -1,4 +1,4 @@
--- Of n's depth, the first place from n on that does not overlap h, where n does.
+-- Of n's depth, the first place from n on that does not overlap h, where n does; and a search that goes on behind h.
 use Rattle.std.proofs.Common.{◌≡◌, ℕ, ◌+◌, ◌-◌, ◌*◌, ◌/◌, ◌%◌, ◌^◌, ◌<◌, ◌≤◌, Bool, true, false, not, sym, refl, ap, ◌∙◌, ⊎_elim, div-mul-le_self, mod-eq_of_lt, pow_pos, pow_mono, arith}
 use Rattle.std.proofs.Math.Bool.{or_comm}
 use Rattle.std.proofs.lemmas.Nat.{le-div, div_below, shl-shr}

@@ -58,7 +58,7 @@ impl<S: Space, R: Rule> Space for Limited<S, R> {
         }
     }
 
-    // The take below asks whether n is open there: only a rule that looks asks that before.
+    // The take below asks whether n is open there. Only where the rule looks is that asked before.
     fn take(&mut self, n: usize) -> bool {
         if R::LOOKS {
             self.open(n) && self.below.take(n)

@@ -7,7 +7,7 @@ use space::Space;
 
 // A rule is asked about the space that it limits, and keeps no count of its own.
 pub trait Rule {
-    // Whether an answer takes a look at the places out. Such a rule is asked last, any other first.
+    // Whether `allows` looks at the places out. Opening and taking ask such a rule after the space, any other before it.
     const LOOKS: bool = true;
 
     // Whether a place is allowed, for a depth and a set of places out.

@@ -1,4 +1,4 @@
--- Shifts of a number of 128 bits: where k is too many, nothing is left, and 0 stands for it.
+-- Shifts of a number, past its width too: where k is too many for 128 bits, nothing is left, and 0 stands for it.
 use Rattle.std.proofs.Common.{◌≡◌, ℕ, ◌+◌, ◌-◌, ◌*◌, ◌/◌, ◌%◌, ◌^◌, ◌<◌, ◌≤◌, Option, Some, None, sym, mod-eq_of_lt, mul_assoc, pow_mono, pow-add, arith}
 use Rattle.std.specs.Option.{SomeIff, unwrap_or}
 use Rattle.std.proofs.Math.Nat.{div-eq_of_lt, mul-mod_left}

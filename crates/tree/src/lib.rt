@@ -56,7 +56,8 @@ impl<'a> BuddyTree<'a> {
         0 < self.depth && is_place(self.depth, n)
     }
 
-    // Writes whether n is out, and sets each place above it by its two halves. No other place out may overlap n.
+    // Writes whether n is out, and sets each byte above it: on a take to 2, on a give by its two halves. No other place
+    // out may overlap n.
     fn set_out(&mut self, n: usize, out: bool)
         requires live { 0 < self.old.depth }
         requires place { is_place self.old.depth n ≡ true }
@@ -66,8 +67,7 @@ impl<'a> BuddyTree<'a> {
         ensures named { self.new.bytes.ghost_name ≡ self.old.bytes.ghost_name }
         ensures beyond { (k : ℕ) → 2 ^ (self.old.depth + 1) ≤ k → byte self.new.bytes.now k ≡ byte self.old.bytes.now k }
     {
-        // Works on the bytes and not on `self`: they are not tidy until the walk up ends. A place above one
-        // that is out is 2, so that a take need not read.
+        // Works on the bytes and not on `self`: they are not tidy until the walk up ends.
         let b = &mut *self.bytes;
         b[n] = u8::from(out);
         let mut a = n / 2;

@@ -22,9 +22,17 @@ returns-then-hits-ne0 g c =
       | else-this-ne0 b ↦ grind (arith, nat_tests, on-not 64 y j (omega (arith, c.type_inv.words c.loop-w.w)) lt)
     ] in
     let m = met c.args.words.now c.args.run.start c.loop-w.w c.if-this-ne0.word c.loop-w.from (not (eqb g.row.SET 0)) is c.loop-w.invariant.mask (omega arith) c.if-hits-ne0.true in
-    answer c.args.words.now c.args.run.start c.args.run.end _ (not (eqb g.row.SET 0)) m.from m.is
-    (λ k le lt. ⊎_elim (λ b. c.loop-w.invariant.before k le b) (λ b. m.before k le lt b) (cases_lt k (64 * c.loop-w.w)))
-    c.then_some.result c.then_some.ensures
+    (m.from, omega arith, m.is, λ k le lt. ⊎_elim (λ b. c.loop-w.invariant.before k le b) (λ b. m.before k le lt b) (cases_lt k (64 * c.loop-w.w)))
+
+pub returns-then-i-end : goal.returns-then-i-end
+returns-then-i-end g c =
+    let y = get_or c.args.words.now c.loop-w.w 0 in
+    let is : (j : ℕ) → j < 64 → on c.if-this-ne0.word j ≡ cond (not (eqb g.row.SET 0)) (on y j) (not (on y j)) = λ j lt. elim c.if-this-ne0.branch [
+      | then-this-ne0 b ↦ grind (arith, nat_tests)
+      | else-this-ne0 b ↦ grind (arith, nat_tests, on-not 64 y j (omega (arith, c.type_inv.words c.loop-w.w)) lt)
+    ] in
+    let m = met c.args.words.now c.args.run.start c.loop-w.w c.if-this-ne0.word c.loop-w.from (not (eqb g.row.SET 0)) is c.loop-w.invariant.mask (omega arith) c.if-hits-ne0.true in
+    λ k le lt. ⊎_elim (λ b. c.loop-w.invariant.before k le b) (λ b. m.before k le (omega arith) b) (cases_lt k (64 * c.loop-w.w))
 
 pub loop-w-preserved : goal.loop-w-preserved
 loop-w-preserved g c =

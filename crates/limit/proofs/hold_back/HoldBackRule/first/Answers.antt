@@ -10,6 +10,5 @@ returns-in_err-beside g c =
 
 pub returns : goal.returns
 returns g c =
-    let a = c.in_ok-beside.ensures in
-    beside_some c.args.n c.args.self.now.held c.saturating_sub-halvings.result (omega (arith, ap depth_of c.from.ensures)) c.if-allows.ensures c.in_ok-beside.field-0 a.0 a.1
+    beside_some c.args.n c.args.self.now.held c.saturating_sub-halvings.result (omega (arith, ap depth_of c.from.ensures)) c.if-allows.ensures _ (omega arith) (grind arith)
     (omega (arith, c.depth_of.ensures.value, c.depth_of.ensures.bound))
