@@ -1,7 +1,6 @@
 -- Runs of bits: one word is set or cleared from one bit to another, or searched, and what it holds of a run.
-use Rattle.std.proofs.Common.{◌≡◌, ℕ, ◌+◌, ◌-◌, ◌*◌, ◌/◌, ◌%◌, ◌^◌, ◌<◌, ◌≤◌, min, max, Option, MatchOption, Bool, true, false, cond, eqb, not, ◌&&◌, ◌||◌, ltb, leb, ◌≢◌, ◌⊎◌, List, length, get_or, set, sym, refl, ap, ◌∙◌, ap₂, inl, inr, ⊎_elim, arith, get_or-set_other, get_or-set_same}
+use Rattle.std.proofs.Common.{◌≡◌, ℕ, ◌+◌, ◌-◌, ◌*◌, ◌/◌, ◌%◌, ◌^◌, ◌<◌, ◌≤◌, min, max, Bool, true, false, cond, eqb, not, ◌&&◌, ◌||◌, ltb, leb, ◌≢◌, ◌⊎◌, List, length, get_or, set, sym, refl, ap, ◌∙◌, ap₂, inl, inr, ⊎_elim, arith, get_or-set_other, get_or-set_same}
 use lib.Bits.{bit_and, bit_or}
-use Rattle.std.specs.Bool.{then_some}
 use Rattle.std.specs.Int.{bit_at, w64, trailing_zeros}
 use Rattle.std.proofs.lemmas.Bool.Decides.{nat_tests}
 use Rattle.std.proofs.lemmas.Nat.{and_le_r}
@@ -216,12 +215,3 @@ module _ (ws : List ℕ) (a w x p : ℕ) (s : Bool) (is : (j : ℕ) → j < 64 �
         is = grind (arith, nat_tests);
         before = λ k le lt ge. let m : k % 64 < t = omega (arith, z.0) in missed k (omega (arith, z.0)) le (z.2 (k % 64) m);
       }
-
--- i is the first bit from a on that is s: what to answer of the run a..e
-module _ (ws : List ℕ) (a e i : ℕ) (s : Bool) (from : a ≤ i) (is : bit ws i ≡ s) (before : (k : ℕ) → a ≤ k → k < i → bit ws k ≡ not s) where
-  answer_by : (b : Bool) → b ≡ ltb i e → MatchOption (then_some b i) ((k : ℕ) → a ≤ k → k < e → bit ws k ≡ not s) (λ i. (a ≤ i) × (i < e) × (bit ws i ≡ s) × ((k : ℕ) → a ≤ k → k < i → bit ws k ≡ not s))
-  answer_by true q = (from, grind (arith, nat_tests), is, before)
-  answer_by false q = λ k le lt. let m : k < i = grind (arith, nat_tests) in before k le m
-
-  pub answer : (r : Option ℕ) → r ≡ then_some (ltb i e) i → MatchOption r ((k : ℕ) → a ≤ k → k < e → bit ws k ≡ not s) (λ i. (a ≤ i) × (i < e) × (bit ws i ≡ s) × ((k : ℕ) → a ≤ k → k < i → bit ws k ≡ not s))
-  answer r q = rw q (answer_by (ltb i e) refl)

@@ -4,7 +4,7 @@ use Rattle.std.proofs.lemmas.Bool.Decides.{nat_tests}
 use Rattle.std.proofs.lemmas.Nat.Bits.{bit_at-zero, bit_at_ones}
 use Rattle.bits.specs.Bit.{on}
 use Rattle.bits.proofs.Digits.{on-not, on_from}
-use Rattle.bits.proofs.Runs.{missed, met, answer}
+use Rattle.bits.proofs.Runs.{missed, met}
 use Rattle.bits.proofs.first.Goals as goal
 use Rattle.bits.proofs.first.Goals.{then-this-ne0, else-this-ne0}
 
